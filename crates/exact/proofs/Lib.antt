@@ -1,0 +1,13 @@
+pub mod LawsExact
+pub mod LawsBasic
+pub mod LawsSequence
+pub mod LawsChoice
+pub mod LawsRepeat
+pub mod LawsFixed
+pub mod LawsPadding
+pub mod LawsRest
+pub mod LawsWithin
+pub mod LawsKinds
+pub mod LawsTiling
+pub mod LawsTable
+pub mod LawsSteps

@@ -1,0 +1,13 @@
+pub mod Got
+pub mod Exact
+pub mod Basic
+pub mod Sequence
+pub mod Choice
+pub mod Repeat
+pub mod Fixed
+pub mod Padding
+pub mod Rest
+pub mod Within
+pub mod Kinds
+pub mod Tiling
+pub mod Table
