@@ -11,3 +11,7 @@ pub mod LawsKinds
 pub mod LawsTiling
 pub mod LawsTable
 pub mod LawsSteps
+pub mod LawsRefuse
+pub mod LawsUpto
+pub mod LawsUntil
+pub mod LawsEntries

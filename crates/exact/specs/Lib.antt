@@ -11,3 +11,7 @@ pub mod Within
 pub mod Kinds
 pub mod Tiling
 pub mod Table
+pub mod Refuse
+pub mod Upto
+pub mod Until
+pub mod Entries

@@ -1,8 +1,22 @@
--- A code's magnitude, by binade: it grows with the code, for any mantissa width. Assumes nothing.
-use mathlib.Core.Path.{_≡_, refl, sym, ap, subst, _∙_}
+-- A code's magnitude by binade, and that it grows with the code, for any mantissa width. Assumes nothing.
+use mathlib.Core.Path.{_≡_, refl, ap, _∙_}
 use mathlib.Core.Logic.{_⊎_, inl, inr, ⊎-elim}
 use Prim.Native.Nat.{ℕ, zero, suc, _+_, _-_, _*_, _/_, _%_, _^_, _≤_, _<_}
-use native.Mathlib.Nat.{add-zero, zero-add, zero-mul, mul-one, pow-zero, pow-suc, mul-assoc, mul-comm, suc-mul, div-eq-of-lt, mod-eq-of-lt, mod-lt, mul-lt-mul-of-pos-right}
+use native.Mathlib.Nat.{
+  add-zero,
+  zero-add,
+  zero-mul,
+  mul-one,
+  pow-zero,
+  pow-suc,
+  mul-assoc,
+  mul-comm,
+  suc-mul,
+  div-eq-of-lt,
+  mod-eq-of-lt,
+  mod-lt,
+  mul-lt-mul-of-pos-right,
+}
 use native.Mathlib.Omega.{arith}
 use lib.Pow.{pow-pos, split, high, low}
 use borrow.Author.Tests.{ne-eqb}
@@ -22,7 +36,8 @@ module _ (m : ℕ) where
 
   -- code e * 2 ^ m + j is j steps of 2 ^ e, up to the next binade's first
   pub value : (e j : ℕ) → (e ≡ 0) ⊎ (2 ^ m ≤ j) → j ≤ 2 * 2 ^ m → steps m (e * 2 ^ m + j) ≡ j * 2 ^ e
-  value e j w h = ⊎-elim least (λ g. ⊎-elim (within g) (λ l. last (omega arith)) (side j (2 * 2 ^ m))) (side j (2 ^ m))
+  value e j w h =
+      ⊎-elim least (λ g. ⊎-elim (within g) (λ l. last (omega arith)) (side j (2 * 2 ^ m))) (side j (2 ^ m))
     where
       least : j < 2 ^ m → steps m (e * 2 ^ m + j) ≡ j * 2 ^ e
       least l =
@@ -54,7 +69,7 @@ module _ (m : ℕ) where
   pub grows : (c : ℕ) → steps m c < steps m (suc c)
   grows c = by-field c (c / 2 ^ m) (c % 2 ^ m) (split c m) (mod-lt c (pow-pos m))
 
--- magnitudes of m mantissa bits whose least subnormal is 2 ^ k
+-- magnitudes of m mantissa bits in a unit of which the least subnormal is 2 ^ k
 abbrev pub wide : ℕ → ℕ → ℕ → ℕ
 wide m k c = steps m c * 2 ^ k
 

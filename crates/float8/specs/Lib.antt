@@ -1,4 +1,5 @@
--- The exact magnitudes of floats, the code nearest to one, and the two 8-bit formats by them.
+-- Floats by their exact magnitudes: a code's magnitude, the code nearest to one, and the two 8-bit formats.
 pub mod Magnitude
 pub mod Nearest
 pub mod Formats
+pub mod Inner

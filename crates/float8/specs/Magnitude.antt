@@ -1,5 +1,6 @@
--- The exact magnitude of a float, for any widths of its exponent and mantissa fields. A float's code is its bits without the sign. Every format's
--- magnitudes are whole numbers in one unit, 2 ^ -1074, the least that an f64 has. Document 01, "Eight-bit floats": "the exact f64 value".
+-- The exact magnitude of a float of any exponent and mantissa widths. A code is a float's bits without its sign. All
+-- formats' magnitudes are whole numbers in one unit, 2 ^ -1074, the least that an f64 has. Document 01, "Eight-bit
+-- floats": "the exact f64 value".
 use Prim.Native.Nat.{ℕ, _+_, _-_, _*_, _/_, _%_, _^_}
 use mathlib.Core.Bool.{cond}
 use lib.Dec.{eqb}
@@ -8,12 +9,12 @@ use lib.Dec.{eqb}
 abbrev pub bias : ℕ → ℕ
 bias e = 2 ^ (e - 1) - 1
 
--- a code of m mantissa bits, in units of its format's least subnormal: the mantissa field f where the exponent field is 0, else 2 ^ m + f
--- doubled for each exponent above 1
+-- a code of m mantissa bits in units of its format's least subnormal: the mantissa field where the exponent field is 0,
+-- else the mantissa field under the implied 1, doubled for each exponent above 1
 unfoldable pub steps : ℕ → ℕ → ℕ
 steps m c = cond (eqb (c / 2 ^ m) 0) (c % 2 ^ m) ((2 ^ m + c % 2 ^ m) * 2 ^ (c / 2 ^ m - 1))
 
--- the least subnormal is 2 ^ (1 - bias - m), so this power of two in units of 2 ^ -1074
+-- the least subnormal is 2 ^ (1 - bias - m), so 2 to this power of the f64's
 abbrev pub place : ℕ → ℕ → ℕ
 place bias m = 1075 - bias - m
 
@@ -25,11 +26,12 @@ magnitudeBy bias m c = steps m c * 2 ^ place bias m
 abbrev pub magnitude : ℕ → ℕ → ℕ → ℕ
 magnitude e m = magnitudeBy (bias e) m
 
--- the code of infinity: exponent bits all ones, mantissa 0. It stands at the power of two after the largest number. The codes above it are NaNs.
+-- infinity's code has all exponent bits and no mantissa bit. By its magnitude it stands at the power of two after the
+-- largest number; the codes above it are NaNs.
 abbrev pub infinity : ℕ → ℕ → ℕ
 infinity e m = (2 ^ e - 1) * 2 ^ m
 
--- an f64 has 11 exponent and 52 mantissa bits, and its least subnormal is the unit
+-- an f64 has 11 exponent and 52 mantissa bits
 abbrev pub magnitude64 : ℕ → ℕ
 magnitude64 = magnitude 11 52
 

@@ -1,11 +1,12 @@
--- `nearest_code` meets its contract: its shift is small, and the law of the rounded bits gives the nearest code. Assumes nothing.
-use Prim.Native.Nat.{ℕ, _+_, _-_, _*_, _/_, _%_, _^_, _≤_, _<_, min}
-use mathlib.Core.Path.{_≡_}
+-- `nearest_code` meets its contract, by the laws of the bits so rounded. Assumes nothing.
 use native.Mathlib.Omega.{arith}
-use Rattle.float8.proofs.Narrowing.{by-bias, within-reach}
+use Rattle.float8.proofs.Narrowing.{within-reach, nearest-code}
 use borrow.Author.Needs.{needs}
 use Rattle.float8.proofs.nearest_code.Statement.{statement}
 use Rattle.float8.proofs.nearest_code.Tie as tie
+
+add-least-normal : tie.Need-add-least-normal
+add-least-normal c = search needs
 
 sub-least-normal : tie.Need-sub-least-normal
 sub-least-normal c = search needs
@@ -36,46 +37,38 @@ sub-shift-2 c = search needs
 
 add-shift : tie.Need-add-shift
 add-shift c =
-    let a = c .before .before .args in
-    let p = c .before .before .pre in
-    let h = c .before .max-of in
-    let x = c .max-of2 in
-    omega (arith, within-reach (a .bias) (a .man-bits) (a .magnitude) (h .result) (x .result) (p .1) (p .0) (h .ensures) (x .ensures) .1)
+    let b = c .before .before in
+    omega (arith, within-reach (b .pre .1) (b .args .magnitude) (c .before .max-of .ensures) (c .max-of2 .ensures) (b .pre .0) .1)
 
-sub-scaled : tie.Need-sub-scaled
-sub-scaled c = search needs
+sub-binades : tie.Need-sub-binades
+sub-binades c = search needs
 
-mul-scaled : tie.Need-mul-scaled
-mul-scaled c = search needs
+mul-binades : tie.Need-mul-binades
+mul-binades c = search needs
 
-add-scaled : tie.Need-add-scaled
-add-scaled c = search needs
+add-round-shift-right-ties-even : tie.Need-add-round-shift-right-ties-even
+add-round-shift-right-ties-even c = search needs
 
 round-shift-right-ties-even-requires : tie.Need-round-shift-right-ties-even-requires
 round-shift-right-ties-even-requires c κs =
-    let a = c .before .before .args in
-    let p = c .before .before .pre in
-    let h = c .before .max-of in
-    let x = c .max-of2 in
-    within-reach (a .bias) (a .man-bits) (a .magnitude) (h .result) (x .result) (p .1) (p .0) (h .ensures) (x .ensures)
+    let b = c .before .before in
+    within-reach (b .pre .1) (b .args .magnitude) (c .before .max-of .ensures) (c .max-of2 .ensures) (b .pre .0)
 
 min-of-requires : tie.Need-min-of-requires
 min-of-requires c κs = search needs
 
 returns : tie.Need-returns
 returns c =
-    let a = c .before .before .before .before .args in
-    let h = c .before .before .before .max-of in
-    let x = c .before .before .max-of2 in
-    let q = c .before .round-shift-right-ties-even in
+    let b = c .before .before .before .before in
     rw (c .min-of .ensures)
-    (by-bias (a .bias) (a .man-bits) (a .top) (a .magnitude) (h .result) (x .result) (q .result) (c .before .before .before .before .pre .1)
-    (h .ensures) (x .ensures) (q .ensures))
+    (nearest-code (b .pre .1) (b .args .magnitude) (c .before .before .before .max-of .ensures)
+    (c .before .before .max-of2 .ensures) (b .args .top) (c .before .round-shift-right-ties-even .ensures))
 
 pub nearest-code-spec : {M : Type 1} → statement M
 nearest-code-spec =
     tie.close
     (tie.spec
+    add-least-normal
     sub-least-normal
     sub-max-of
     sub-max-of-2
@@ -86,9 +79,9 @@ nearest-code-spec =
     sub-shift
     sub-shift-2
     add-shift
-    sub-scaled
-    mul-scaled
-    add-scaled
+    sub-binades
+    mul-binades
+    add-round-shift-right-ties-even
     round-shift-right-ties-even-requires
     min-of-requires
     returns)

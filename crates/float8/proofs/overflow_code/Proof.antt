@@ -1,6 +1,6 @@
 -- `overflow_code` meets its contract: in seven bits no power of two is too large. Assumes nothing.
 use mathlib.Core.Path.{_≡_, ap}
-use Prim.Native.Nat.{ℕ, _+_, _-_, _*_, _^_, _≤_}
+use Prim.Native.Nat.{ℕ, _+_, _^_}
 use native.Mathlib.Omega.{arith}
 use lib.Pow.{pow-pos, high-ones}
 use borrow.Author.Needs.{needs}
@@ -14,7 +14,10 @@ pow2-requires : tie.Need-pow2-requires
 pow2-requires c κs = search needs
 
 sub-result : tie.Need-sub-result
-sub-result c = let s : 2 ^ (c .before .before .args .exp-bits + c .before .before .args .man-bits) ≡ 2 ^ 7 = ap (λ (n : ℕ). 2 ^ n) (c .before .before .pre) in omega arith
+sub-result c =
+    let a = c .before .before .args in
+    let s : 2 ^ (a .exp-bits + a .man-bits) ≡ 2 ^ 7 = ap (λ (n : ℕ). 2 ^ n) (c .before .before .pre) in
+    omega arith
 
 returns : tie.Need-returns
 returns c = rw (c .before .if1 .taken, c .pow2 .ensures)

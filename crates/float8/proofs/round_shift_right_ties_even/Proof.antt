@@ -2,7 +2,7 @@
 use Prim.Native.Nat.{_-_, _^_, _≤_}
 use lib.Pow.{pow-pos, pow-mono}
 use native.Mathlib.Omega.{arith}
-use Rattle.float8.proofs.Rounding.{by-sum, halved}
+use Rattle.float8.proofs.Rounding.{by-sum}
 use borrow.Author.Needs.{needs}
 use Rattle.float8.proofs.round_shift_right_ties_even.Statement.{statement}
 use Rattle.float8.proofs.round_shift_right_ties_even.Tie as tie
@@ -20,16 +20,22 @@ sub-result : tie.Need-sub-result
 sub-result c = omega (arith, c .pow2 .ensures, pow-pos (c .before .args .shift - 1))
 
 add-result : tie.Need-add-result
-add-result c = let s = c .before .args .shift in let h : 2 ^ (s - 1) ≤ 2 ^ 62 = pow-mono {i = s - 1} {j = 62} (omega arith) in omega arith
+add-result c =
+    let s = c .before .args .shift in
+    let h : 2 ^ (s - 1) ≤ 2 ^ 62 = pow-mono {i = s - 1} {j = 62} (omega arith) in
+    omega arith
 
 add-result-2 : tie.Need-add-result-2
-add-result-2 c = let s = c .before .args .shift in let h : 2 ^ (s - 1) ≤ 2 ^ 62 = pow-mono {i = s - 1} {j = 62} (omega arith) in omega arith
+add-result-2 c =
+    let s = c .before .args .shift in
+    let h : 2 ^ (s - 1) ≤ 2 ^ 62 = pow-mono {i = s - 1} {j = 62} (omega arith) in
+    omega arith
 
 shr-result : tie.Need-shr-result
 shr-result c = search needs
 
 returns : tie.Need-returns
-returns c = let a = c .before .args in by-sum (a .value) (a .shift) (c .pow2 .result) (halved (a .shift) (c .pow2 .result) (c .before .pre .0) (c .pow2 .ensures))
+returns c = let a = c .before .args in by-sum (a .value) (a .shift) (c .pow2 .result) (c .before .pre .0) (c .pow2 .ensures)
 
 pub round-shift-right-ties-even-spec : {M : Type 1} → statement M
 round-shift-right-ties-even-spec =

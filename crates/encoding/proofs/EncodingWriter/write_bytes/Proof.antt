@@ -1,0 +1,43 @@
+-- `write_bytes` writes a run of bytes. Assumes nothing.
+use mathlib.Core.Path.{_≡_, refl, sym, ap, _∙_}
+use native.Mathlib.Omega.{arith}
+use Rattle.encoding.proofs.LawsWritten.{writes-room, writes-full}
+use borrow.Author.Needs.{needs}
+use Rattle.encoding.proofs.EncodingWriter.write_bytes.Statement.{statement}
+use Rattle.encoding.proofs.EncodingWriter.write_bytes.Tie as tie
+
+has-room-requires : tie.Need-has-room-requires
+has-room-requires c κs = search needs
+
+put-bytes-requires : tie.Need-put-bytes-requires
+put-bytes-requires c κs = c .before .before .has-room .ensures .holds (c .before .if1 .taken)
+
+add-moved : tie.Need-add-moved
+add-moved c = omega (arith, c .before .before .before .before .before .has-room .ensures .holds (c .before .before .before .before .if1 .taken))
+
+moved-requires : tie.Need-moved-requires
+moved-requires c κs = search needs
+
+same-length : tie.Need-same-length
+same-length c = search needs
+
+returns : tie.Need-returns
+returns c =
+    let p = c .before .before .before in
+    let h = p .before .before .before .has-room .ensures .holds (p .before .before .if1 .taken) in
+    writes-room (p .before .before .before .before .before .before .args .self) _ refl h (p .put-bytes .ensures) (c .moved .ensures)
+
+returns-2 : tie.Need-returns-2
+returns-2 c = writes-full (c .before .before .before .before .args .self) _ refl (c .before .has-room .ensures .fails (c .if1 .left))
+
+pub write-bytes-spec : {M : Type 1} → statement M
+write-bytes-spec =
+    tie.close
+    (tie.spec
+    has-room-requires
+    put-bytes-requires
+    add-moved
+    moved-requires
+    same-length
+    returns
+    returns-2)

@@ -1,0 +1,25 @@
+-- `write_le_i64` writes the bit pattern. Assumes nothing.
+use mathlib.Core.Path.{ap, _∙_}
+use borrow.Author.Needs.{needs}
+use Rattle.exact.specs.Fixed.{bytesOf}
+use mir.Facts.{toZ-ofZ}
+use Rattle.encoding.specs.Signed.{pattern}
+use Rattle.encoding.proofs.LawsOut.{puts-as}
+use Rattle.encoding.proofs.EncodingWriter.write_le_i64.Statement.{statement}
+use Rattle.encoding.proofs.EncodingWriter.write_le_i64.Tie as tie
+
+bits-of-i64-requires : tie.Need-bits-of-i64-requires
+bits-of-i64-requires c κs = search needs
+
+write-le-u64-requires : tie.Need-write-le-u64-requires
+write-le-u64-requires c κs = search needs
+
+same-length : tie.Need-same-length
+same-length c = search needs
+
+returns : tie.Need-returns
+returns c = puts-as (ap (bytesOf 8) (c .before .before .before .bits-of-i64 .ensures ∙ ap (pattern 64) (toZ-ofZ (c .before .before .before .before .before .before .fits .value)))) (c .before .before .write-le-u64 .ensures)
+
+pub write-le-i64-spec : {M : Type 1} → statement M
+write-le-i64-spec =
+    tie.close (tie.spec bits-of-i64-requires write-le-u64-requires same-length returns)

@@ -1,0 +1,4 @@
+pub mod Varint
+pub mod Signed
+pub mod Out
+pub mod Shown

@@ -1,0 +1,121 @@
+-- Runs and counted arrays with their places: what the code answers, and what its answer says of the plain parsers.
+-- Assumes nothing.
+use mathlib.Core.Path.{_≡_, refl, sym, ap, _∙_}
+use Prim.Native.Nat.{ℕ, zero, suc, _+_, _*_, _-_, _/_, _≤_, _<_}
+use native.Mathlib.Nat.{div-mul-le-self, lt-div-mul-add, mul-le-mul-right}
+use native.Mathlib.Omega.{arith}
+use native.Mathlib.Decide.{decLt}
+use mathlib.Core.List.{List}
+use lib.ListN.{length, take, drop}
+use Rattle.exact.specs.Got.{Got, got, stop, ended, follow}
+use Rattle.exact.specs.Exact.{Parser}
+use Rattle.exact.specs.Basic.{pure}
+use Rattle.exact.specs.Sequence.{bind, map}
+use Rattle.exact.specs.Repeat.{times, counted}
+use Rattle.exact.specs.Fixed.{raw, little, fixed, nums}
+use Rattle.exact.specs.Padding.{here}
+use Rattle.exact.proofs.LawsExact.{stop-not-got, got-value, got-next}
+use Rattle.exact.proofs.LawsSequence.{bind-got, bind-stop}
+use Rattle.exact.proofs.LawsSteps.{raw-at, raw-end, fixed-at, fixed-end, times-at, times-end}
+use Rattle.reading.specs.Numbers.{varintAt, placed, itemsAt, countedAt, Word}
+use Rattle.reading.proofs.LawsNumbers.{varint-in}
+
+module _ {A : Type 0} (p : Parser A) (l : List ℕ) (i : ℕ) where
+  -- A value that was read, with its place ..
+  pub placed-at : (v : A) (j : ℕ) → p l i ≡ got v j → placed p l i ≡ got (i, v) j
+  unfolding placed here map bind follow pure
+  placed-at v j e = rw e
+
+  -- .. and a refusal.
+  pub placed-end : (c k : ℕ) → p l i ≡ stop c k → placed p l i ≡ stop c k
+  unfolding placed here map bind follow
+  placed-end c k e = rw e
+
+  -- A value with a place was read there ..
+  pub placed-got : (n : ℕ) (v : A) (j : ℕ) → placed p l i ≡ got (n, v) j → (n ≡ i) × (p l i ≡ got v j)
+  placed-got n v j e = go (p l i) refl
+    where
+      go : (g : Got A) → p l i ≡ g → (n ≡ i) × (p l i ≡ got v j)
+      go (got w k) h =
+          let f : _≡_ {A = Got (ℕ × A)} (got (i, w) k) (got (n, v) j) = sym (placed-at w k h) ∙ e in
+          (sym (ap (λ x. x .0) (got-value f)), h ∙ cc (ap (λ x. x .1) (got-value f), got-next f))
+      go (stop c k) h = absurd (stop-not-got (sym (placed-end c k h) ∙ e))
+
+  -- .. and a refusal is the parser's own.
+  pub placed-stop : (c k : ℕ) → placed p l i ≡ stop c k → p l i ≡ stop c k
+  placed-stop c k e = go (p l i) refl
+    where
+      go : (g : Got A) → p l i ≡ g → p l i ≡ stop c k
+      go (got w m) h = absurd (stop-not-got (sym e ∙ placed-at w m h))
+      go (stop d m) h = h ∙ sym (cc (placed-end d m h))
+
+module _ (n : ℕ) (s : List ℕ) (i : ℕ) where
+  -- A run that is there ..
+  pub run-at : n ≤ length s - i → got (i, take (i + n - i) (drop i s)) (i + n) ≡ placed (raw n) s i
+  run-at h =
+      let e : i + n - i ≡ n = omega arith in
+      rw e (sym (placed-at (raw n) s i (take n (drop i s)) (i + n) (raw-at n s i h)))
+
+  -- .. and one that is not.
+  pub run-end : length s - i < n → stop ended i ≡ placed (raw n) s i
+  run-end h = sym (placed-end (raw n) s i ended i (raw-end n s i h))
+
+  raw-got : (bs : List ℕ) (j : ℕ) → raw n s i ≡ got bs j → (n ≤ length s - i) × (j ≡ i + n)
+  raw-got bs j e =
+      elim (decLt (length s - i) n) [
+        | yes h ↦ absurd (stop-not-got (sym (raw-end n s i h) ∙ e))
+        | no h ↦ let m : n ≤ length s - i = omega arith in (m, got-next (sym e ∙ raw-at n s i m))
+      ]
+
+  -- What an answer says of the run: it starts at the reader, ends n further on, and is all there.
+  pub run-got : (start : ℕ) (bs : List ℕ) (next : ℕ) → placed (raw n) s i ≡ got (start, bs) next →
+      (start ≡ i) × (next ≡ i + n) × (n ≤ length s - i)
+  run-got start bs next e =
+      let (a, f) = placed-got (raw n) s i start bs next e in
+      let (h, j) = raw-got bs next f in
+      (a, j, h)
+
+  -- The number of a run that was answered ..
+  pub run-word : (start : ℕ) (bs : List ℕ) (next v : ℕ) → placed (raw n) s i ≡ got (start, bs) next → Word n s start v →
+      got v next ≡ fixed n s i
+  run-word start bs next v e w =
+      let (a, j, h) = run-got start bs next e in
+      let x : v ≡ little (take n (drop i s)) = w .value ∙ ap (λ k. little (take n (drop k s))) a in
+      rw (x, j) (sym (fixed-at n s i h))
+
+  -- .. and one that was refused.
+  pub run-stop : (c k : ℕ) → placed (raw n) s i ≡ stop c k → stop c k ≡ fixed n s i
+  unfolding fixed map bind follow
+  run-stop c k e = rw (placed-stop (raw n) s i c k e)
+
+module _ (w : ℕ) (s : List ℕ) (i : ℕ) where
+  -- The count was refused.
+  pub items-stop : (c k : ℕ) → varintAt s i ≡ stop c k → stop c k ≡ itemsAt w s i
+  unfolding itemsAt
+  items-stop c k e = sym (bind-stop varintAt _ s i c k (sym e))
+
+  module _ (count start left : ℕ) (e : varintAt s i ≡ got count start) (rest : left ≡ length s - start) where
+    -- As many numbers as there is room for end inside the data.
+    pub items-room : start + left / w * w ≤ length s
+    items-room = omega (arith, div-mul-le-self left w, varint-in s i count start (sym e))
+
+    pub items-fit : count ≤ left / w → count * w ≤ left
+    items-fit h = omega (arith, div-mul-le-self left w, mul-le-mul-right {m = count} {n = left / w} w h)
+
+    -- All numbers are there ..
+    pub items-at : count ≤ left / w → got (start, nums count w (drop start s)) (start + count * w) ≡ itemsAt w s i
+    unfolding itemsAt
+    items-at h =
+        let f : count * w ≤ length s - start = omega (arith, items-fit h) in
+        sym (bind-got varintAt _ s i count start (sym e) ∙
+        placed-at (times count (fixed w)) s start _ _ (times-at count w s start f))
+
+    -- .. or only as many as there is room for, and the next one breaks where it begins.
+    pub items-end : 0 < w → left / w < count → stop ended (start + left / w * w) ≡ itemsAt w s i
+    unfolding itemsAt
+    items-end p h =
+        let k : ℕ = left / w in
+        let a : k * w ≤ length s - start = omega (arith, div-mul-le-self left w) in
+        let b : length s - start < suc k * w = omega (arith, lt-div-mul-add {a = left} p) in
+        sym (bind-got varintAt _ s i count start (sym e) ∙
+        placed-end (times count (fixed w)) s start _ _ (times-end count w s start k h a b))

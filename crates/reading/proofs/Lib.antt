@@ -1,0 +1,6 @@
+pub mod LawsNumbers
+pub mod LawsWord
+pub mod LawsDigits
+pub mod LawsSkip
+pub mod LawsPlaced
+pub mod LawsShown

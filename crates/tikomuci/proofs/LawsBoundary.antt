@@ -1,0 +1,49 @@
+-- A call answers what the crate below answered; and any two results that a call's contract allows are equal.
+-- Assumes nothing.
+use mathlib.Core.Path.{_≡_, refl, sym, ap, _∙_}
+use Prim.Native.Nat.{ℕ, zero, suc}
+use mathlib.Core.List.{List}
+use lib.ListN.{length, drop}
+use Rattle.exact.specs.Fixed.{nums}
+use Rattle.encoding.specs.Out.{Wrote}
+use Rattle.encoding.specs.Shown as below
+use Rattle.reading.specs.Shown.{gotBytes, gotItems}
+use Rattle.reading.specs.declared.BytesRead.{BytesRead}
+use Rattle.reading.specs.declared.BytesRead.the-variants as bytes
+use Rattle.reading.specs.declared.ItemsRead.{ItemsRead}
+use Rattle.reading.specs.declared.ItemsRead.the-variants as array
+use Rattle.tikomuci.specs.declared.Answer.{Answer}
+use Rattle.tikomuci.specs.Boundary.{Puts, run, runOf, items, itemsOf}
+
+-- An answer that shows x, which is known to be y, shows y.
+pub told : {A : Type 0} (f : A → Answer) {r : Answer} {x y : A} → r ≡ f x → x ≡ y → r ≡ f y
+told f e h = e ∙ ap f h
+
+-- A writer below, and its answer shown.
+pub puts : (f : Wrote → Answer) {n at required : ℕ} {bs out out' : List ℕ} {r : Answer} {x : Wrote} → r ≡ f x →
+    below.Puts n at required bs out out' x → Puts f n at required bs out out' r
+puts f e p = record { answer = told f e (p .answer); output = p .output }
+
+-- A run is answered by its places, whatever the data ..
+pub run-of : (s : List ℕ) (r : BytesRead) → runOf r ≡ run (gotBytes s r)
+run-of s (bytes.Got start r) = refl
+run-of s (bytes.Stop x) = refl
+
+length-nums : (n w : ℕ) (s : List ℕ) → length (nums n w s) ≡ n
+unfolding nums
+length-nums zero w s = refl
+length-nums (suc n) w s = ap suc (length-nums n w (drop w s))
+
+-- .. and a counted array by its count.
+pub items-of : (w : ℕ) (s : List ℕ) (r : ItemsRead) → itemsOf r ≡ items (gotItems w s r)
+items-of w s (array.Got i r) = rw (length-nums (i .count) w (drop (i .start) s))
+items-of w s (array.Stop x) = refl
+
+-- Two results of one call are equal, answer and output alike.
+pub puts-only : {f : Wrote → Answer} {n at required : ℕ} {bs out a b : List ℕ} {r s : Answer} →
+    Puts f n at required bs out a r → Puts f n at required bs out b s → (r ≡ s) × (a ≡ b)
+puts-only p q = (p .answer ∙ sym (q .answer), p .output ∙ sym (q .output))
+
+-- A call that reads answers a function of the data: two answers are equal.
+pub read-only : {r s x : Answer} → r ≡ x → s ≡ x → r ≡ s
+read-only e f = e ∙ sym f

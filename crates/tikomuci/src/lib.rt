@@ -1,0 +1,420 @@
+// The exported calls: thin, over plain numbers and byte slices. Each contract is that of the crate below it, seen through
+// the answer struct; a refused call changes no lent memory.
+use encoding::EncodingWriter;
+use encoding::Patched;
+use encoding::Written;
+use enums::Stage;
+use reading::ByteRead;
+use reading::BytesRead;
+use reading::ItemsRead;
+use reading::NumRead;
+use reading::PaddingRead;
+use reading::Reader;
+use reading::U16Read;
+use reading::U32Read;
+ghost use mathlib.Core.Path.{_≡_};
+ghost use Prim.Native.Nat.{_-_};
+ghost use mathlib.Core.List.{[], _∷_, map};
+ghost use lib.ListN.{replicate};
+ghost use Rattle.exact.specs.Basic.{byte};
+ghost use Rattle.exact.specs.Fixed.{bytesOf, fixed, raw};
+ghost use Rattle.exact.specs.Padding.{gap};
+ghost use Rattle.enums.specs.Container.{P};
+ghost use Rattle.enums.specs.Refusals as refusals;
+ghost use Rattle.encoding.specs.Out.{countedBytes, required};
+ghost use Rattle.encoding.specs.Shown.{wroteOf, patchedOf};
+ghost use Rattle.encoding.specs.Signed.{zigzag, pattern};
+ghost use Rattle.encoding.specs.Varint.{spelling};
+ghost use Rattle.reading.specs.Numbers.{varintAt, signedVarintAt, signedAt, paddingAt, itemsAt, remainingAt, placed};
+ghost use Rattle.reading.specs.Shown.{gotByte, gotU16, gotU32, gotNum, gotBytes, gotPadding, gotItems};
+ghost use Rattle.tikomuci.specs.Boundary.{accepted, refusedAs, Puts, Writes, Patches, nextPlace, nextAligned, number, signedNumber, run, runOf, items, itemsOf, skipped};
+
+// What every call that can be refused answers.
+#[repr(C)]
+pub struct Answer {
+    // 0, or document 01's number
+    pub refusal: u64,
+    // of a refusal; else 0
+    pub stage: u64,
+    // of an acceptance, see each call; else 0
+    pub first: u64,
+    pub second: u64,
+}
+
+impl Answer {
+    // An acceptance, with its two numbers.
+    fn accept(first: u64, second: u64) -> Self
+        ensures { λ r. ⌜ r ≡ accepted first second ⌝ }
+    {
+        Self {
+            refusal: 0,
+            stage: 0,
+            first,
+            second,
+        }
+    }
+
+    // The refusal of a call that reads no container.
+    fn refuse(code: u8) -> Self
+        ensures { λ r. ⌜ r ≡ refusedAs code ⌝ }
+    {
+        Self {
+            refusal: code as u64,
+            stage: Stage::CALL as u64,
+            first: 0,
+            second: 0,
+        }
+    }
+}
+
+// A writer's answer: the next place.
+fn written(w: Written) -> Answer
+    ensures { λ a. ⌜ a ≡ nextPlace (wroteOf w) ⌝ }
+{
+    match w {
+        Written::Next(next) => Answer::accept(next.at as u64, 0),
+        Written::Refused(code) => Answer::refuse(code),
+    }
+}
+
+// The same, with the alignment that is required now.
+fn aligned(w: Written) -> Answer
+    ensures { λ a. ⌜ a ≡ nextAligned (wroteOf w) ⌝ }
+{
+    match w {
+        Written::Next(next) => Answer::accept(next.at as u64, next.required_alignment),
+        Written::Refused(code) => Answer::refuse(code),
+    }
+}
+
+// A patch's answer: the place behind it.
+fn patched(p: Patched) -> Answer
+    ensures { λ a. ⌜ a ≡ nextPlace (patchedOf p) ⌝ }
+{
+    match p {
+        Patched::Next(next) => Answer::accept(next as u64, 0),
+        Patched::Refused(code) => Answer::refuse(code),
+    }
+}
+
+// A number that was read, and the next place.
+fn byte_read(r: ByteRead) -> Answer
+    ensures { λ a. ⌜ a ≡ number (gotByte r) ⌝ }
+{
+    match r {
+        ByteRead::Got(value, next) => Answer::accept(value as u64, next.pos as u64),
+        ByteRead::Stop(refused) => Answer::refuse(refused.no),
+    }
+}
+
+// A number that was read, and the next place.
+fn u16_read(r: U16Read) -> Answer
+    ensures { λ a. ⌜ a ≡ number (gotU16 r) ⌝ }
+{
+    match r {
+        U16Read::Got(value, next) => Answer::accept(value as u64, next.pos as u64),
+        U16Read::Stop(refused) => Answer::refuse(refused.no),
+    }
+}
+
+// A number that was read, and the next place.
+fn u32_read(r: U32Read) -> Answer
+    ensures { λ a. ⌜ a ≡ number (gotU32 r) ⌝ }
+{
+    match r {
+        U32Read::Got(value, next) => Answer::accept(value as u64, next.pos as u64),
+        U32Read::Stop(refused) => Answer::refuse(refused.no),
+    }
+}
+
+// A number that was read, and the next place.
+fn num_read(r: NumRead) -> Answer
+    ensures { λ a. ⌜ a ≡ number (gotNum r) ⌝ }
+{
+    match r {
+        NumRead::Got(value, next) => Answer::accept(value, next.pos as u64),
+        NumRead::Stop(refused) => Answer::refuse(refused.no),
+    }
+}
+
+// A run: where it starts, and the next place.
+fn bytes_read(r: BytesRead) -> Answer
+    ensures { λ a. ⌜ a ≡ runOf r ⌝ }
+{
+    match r {
+        BytesRead::Got(start, next) => Answer::accept(start as u64, next.pos as u64),
+        BytesRead::Stop(refused) => Answer::refuse(refused.no),
+    }
+}
+
+// A counted array: how many numbers, and the next place.
+fn items_read(r: ItemsRead) -> Answer
+    ensures { λ a. ⌜ a ≡ itemsOf r ⌝ }
+{
+    match r {
+        ItemsRead::Got(array, next) => Answer::accept(array.count as u64, next.pos as u64),
+        ItemsRead::Stop(refused) => Answer::refuse(refused.no),
+    }
+}
+
+// Padding from a place on: how many bytes, and the next place.
+fn padding_read(at: u64, r: PaddingRead) -> Answer
+    ensures { λ a. ⌜ a ≡ skipped at (gotPadding r) ⌝ }
+{
+    match r {
+        PaddingRead::Got(next) => Answer::accept(passed(at, next.pos as u64), next.pos as u64),
+        PaddingRead::Stop(refused) => Answer::refuse(refused.no),
+    }
+}
+
+// How far `next` is behind `at`.
+fn passed(at: u64, next: u64) -> u64
+    ensures { λ r. ⌜ r ≡ next - at ⌝ }
+{
+    if at < next {
+        return next - at;
+    }
+    0
+}
+
+// One byte.
+#[no_mangle]
+pub extern "C" fn tikomuci_write_byte(out: &mut [u8], at: u64, value: u8) -> Answer
+    ensures { λ r. ⌜ Writes at (value ∷ []) (now (out .entry)) (now (out .exit)) r ⌝ }
+{
+    let writer = EncodingWriter {
+        at: at as usize,
+        required_alignment: 1,
+    };
+    written(writer.write_byte(out, value))
+}
+
+// A run of bytes.
+#[no_mangle]
+pub extern "C" fn tikomuci_write_bytes(out: &mut [u8], at: u64, data: &[u8]) -> Answer
+    ensures { λ r. ⌜ Writes at (now («data» .entry)) (now (out .entry)) (now (out .exit)) r ⌝ }
+{
+    let writer = EncodingWriter {
+        at: at as usize,
+        required_alignment: 1,
+    };
+    written(writer.write_bytes(out, data))
+}
+
+// A varint, in its shortest spelling.
+#[no_mangle]
+pub extern "C" fn tikomuci_write_varint(out: &mut [u8], at: u64, value: u64) -> Answer
+    ensures { λ r. ⌜ Writes at (spelling value) (now (out .entry)) (now (out .exit)) r ⌝ }
+{
+    let writer = EncodingWriter {
+        at: at as usize,
+        required_alignment: 1,
+    };
+    written(writer.write_varint(out, value))
+}
+
+// A number of 8 bits.
+#[no_mangle]
+pub extern "C" fn tikomuci_write_le_u8(out: &mut [u8], at: u64, value: u8) -> Answer
+    ensures { λ r. ⌜ Writes at (bytesOf 1 value) (now (out .entry)) (now (out .exit)) r ⌝ }
+{
+    let writer = EncodingWriter {
+        at: at as usize,
+        required_alignment: 1,
+    };
+    written(writer.write_le_u8(out, value))
+}
+
+// A number of 16 bits.
+#[no_mangle]
+pub extern "C" fn tikomuci_write_le_u16(out: &mut [u8], at: u64, value: u16) -> Answer
+    ensures { λ r. ⌜ Writes at (bytesOf 2 value) (now (out .entry)) (now (out .exit)) r ⌝ }
+{
+    let writer = EncodingWriter {
+        at: at as usize,
+        required_alignment: 1,
+    };
+    written(writer.write_le_u16(out, value))
+}
+
+// A number of 32 bits.
+#[no_mangle]
+pub extern "C" fn tikomuci_write_le_u32(out: &mut [u8], at: u64, value: u32) -> Answer
+    ensures { λ r. ⌜ Writes at (bytesOf 4 value) (now (out .entry)) (now (out .exit)) r ⌝ }
+{
+    let writer = EncodingWriter {
+        at: at as usize,
+        required_alignment: 1,
+    };
+    written(writer.write_le_u32(out, value))
+}
+
+// A number of 64 bits.
+#[no_mangle]
+pub extern "C" fn tikomuci_write_le_u64(out: &mut [u8], at: u64, value: u64) -> Answer
+    ensures { λ r. ⌜ Writes at (bytesOf 8 value) (now (out .entry)) (now (out .exit)) r ⌝ }
+{
+    let writer = EncodingWriter {
+        at: at as usize,
+        required_alignment: 1,
+    };
+    written(writer.write_le_u64(out, value))
+}
+
+// A float of 32 bits, by its bits.
+#[no_mangle]
+pub extern "C" fn tikomuci_write_le_f32(out: &mut [u8], at: u64, bits: u32) -> Answer
+    ensures { λ r. ⌜ Writes at (bytesOf 4 bits) (now (out .entry)) (now (out .exit)) r ⌝ }
+{
+    let writer = EncodingWriter {
+        at: at as usize,
+        required_alignment: 1,
+    };
+    written(writer.write_le_f32(out, bits))
+}
+
+// A float of 64 bits, by its bits.
+#[no_mangle]
+pub extern "C" fn tikomuci_write_le_f64(out: &mut [u8], at: u64, bits: u64) -> Answer
+    ensures { λ r. ⌜ Writes at (bytesOf 8 bits) (now (out .entry)) (now (out .exit)) r ⌝ }
+{
+    let writer = EncodingWriter {
+        at: at as usize,
+        required_alignment: 1,
+    };
+    written(writer.write_le_f64(out, bits))
+}
+
+// Replaces 4 bytes of a buffer by a number of 32 bits.
+#[no_mangle]
+pub extern "C" fn tikomuci_patch_u32(buf: &mut [u8], offset: u64, value: u32) -> Answer
+    ensures { λ r. ⌜ Patches offset (bytesOf 4 value) (now (buf .entry)) (now (buf .exit)) r ⌝ }
+{
+    patched(encoding::patch_u32(buf, offset as usize, value))
+}
+
+// Replaces 8 bytes of a buffer by a number of 64 bits.
+#[no_mangle]
+pub extern "C" fn tikomuci_patch_u64(buf: &mut [u8], offset: u64, value: u64) -> Answer
+    ensures { λ r. ⌜ Patches offset (bytesOf 8 value) (now (buf .entry)) (now (buf .exit)) r ⌝ }
+{
+    patched(encoding::patch_u64(buf, offset as usize, value))
+}
+
+// Padding to a multiple of `alignment`: `second` is the alignment that is required now.
+#[no_mangle]
+pub extern "C" fn tikomuci_align_to(
+    out: &mut [u8],
+    at: u64,
+    required_alignment: u64,
+    alignment: u64,
+) -> Answer
+    ensures { λ r.
+        ⌜ Puts nextAligned refusals.full at (required «required_alignment» alignment) (replicate (gap alignment at) P)
+        (now (out .entry)) (now (out .exit)) r ⌝ }
+{
+    let writer = EncodingWriter {
+        at: at as usize,
+        required_alignment,
+    };
+    aligned(writer.align_to(out, alignment))
+}
+
+// A byte.
+#[no_mangle]
+pub extern "C" fn tikomuci_read_byte(data: &[u8], at: u64) -> Answer
+    ensures { λ r. ⌜ r ≡ number (byte (now («data» .entry)) at) ⌝ }
+{
+    let reader = Reader { pos: at as usize };
+    byte_read(reader.read_byte(data))
+}
+
+// A run of n bytes: `first` is where it starts.
+#[no_mangle]
+pub extern "C" fn tikomuci_read_bytes(data: &[u8], at: u64, n: u64) -> Answer
+    ensures { λ r. ⌜ r ≡ run (placed (raw n) (now («data» .entry)) at) ⌝ }
+{
+    let reader = Reader { pos: at as usize };
+    bytes_read(reader.read_bytes(data, n as usize))
+}
+
+// A varint, in any of its spellings.
+#[no_mangle]
+pub extern "C" fn tikomuci_read_varint(data: &[u8], at: u64) -> Answer
+    ensures { λ r. ⌜ r ≡ number (varintAt (now («data» .entry)) at) ⌝ }
+{
+    let reader = Reader { pos: at as usize };
+    num_read(reader.read_varint(data))
+}
+
+// A number of 8 bits.
+#[no_mangle]
+pub extern "C" fn tikomuci_read_le_u8(data: &[u8], at: u64) -> Answer
+    ensures { λ r. ⌜ r ≡ number (fixed 1 (now («data» .entry)) at) ⌝ }
+{
+    let reader = Reader { pos: at as usize };
+    byte_read(reader.read_le_u8(data))
+}
+
+// A number of 16 bits.
+#[no_mangle]
+pub extern "C" fn tikomuci_read_le_u16(data: &[u8], at: u64) -> Answer
+    ensures { λ r. ⌜ r ≡ number (fixed 2 (now («data» .entry)) at) ⌝ }
+{
+    let reader = Reader { pos: at as usize };
+    u16_read(reader.read_le_u16(data))
+}
+
+// A number of 32 bits.
+#[no_mangle]
+pub extern "C" fn tikomuci_read_le_u32(data: &[u8], at: u64) -> Answer
+    ensures { λ r. ⌜ r ≡ number (fixed 4 (now («data» .entry)) at) ⌝ }
+{
+    let reader = Reader { pos: at as usize };
+    u32_read(reader.read_le_u32(data))
+}
+
+// A number of 64 bits.
+#[no_mangle]
+pub extern "C" fn tikomuci_read_le_u64(data: &[u8], at: u64) -> Answer
+    ensures { λ r. ⌜ r ≡ number (fixed 8 (now («data» .entry)) at) ⌝ }
+{
+    let reader = Reader { pos: at as usize };
+    num_read(reader.read_le_u64(data))
+}
+
+// A counted array: `first` is the count, and its numbers of 8 bytes stand before `second`.
+#[no_mangle]
+pub extern "C" fn tikomuci_read_le_var_size_i64(data: &[u8], at: u64) -> Answer
+    ensures { λ r. ⌜ r ≡ items (itemsAt 8 (now («data» .entry)) at) ⌝ }
+{
+    let reader = Reader { pos: at as usize };
+    items_read(reader.read_le_var_size_i64(data))
+}
+
+// A counted array: `first` is the count, and its numbers of 4 bytes stand before `second`.
+#[no_mangle]
+pub extern "C" fn tikomuci_read_le_var_size_i32(data: &[u8], at: u64) -> Answer
+    ensures { λ r. ⌜ r ≡ items (itemsAt 4 (now («data» .entry)) at) ⌝ }
+{
+    let reader = Reader { pos: at as usize };
+    items_read(reader.read_le_var_size_i32(data))
+}
+
+// Passes over padding to a multiple of `alignment`: `first` is how many bytes it has.
+#[no_mangle]
+pub extern "C" fn tikomuci_skip_padding(data: &[u8], at: u64, alignment: u64) -> Answer
+    ensures { λ r. ⌜ r ≡ skipped at (paddingAt alignment (now («data» .entry)) at) ⌝ }
+{
+    let reader = Reader { pos: at as usize };
+    padding_read(at, reader.skip_padding(data, alignment))
+}
+
+// How many bytes are left at a place: none past the end.
+#[no_mangle]
+pub extern "C" fn tikomuci_remaining(data: &[u8], at: u64) -> u64
+    ensures { λ r. ⌜ r ≡ remainingAt (now («data» .entry)) at ⌝ }
+{
+    let reader = Reader { pos: at as usize };
+    reader.remaining(data) as u64
+}
