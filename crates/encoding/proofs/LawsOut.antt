@@ -1,7 +1,7 @@
 -- What `put` leaves, byte by byte; what a writer answers; and that no two results of one writer differ. Assumes nothing.
 use mathlib.Core.Path.{_≡_, refl, sym, ap, _∙_, subst}
 use mathlib.Core.Logic.{_⊎_, inl, inr}
-use Prim.Native.Nat.{ℕ, zero, suc, _+_, _-_, _*_, _/_, _%_, _≤_, _<_, max}
+use Prim.Native.Nat.{ℕ, zero, suc, _+_, _-_, _*_, _/_, _%_, _^_, _≤_, _<_, max}
 use native.Mathlib.Nat.{add-zero}
 use native.Mathlib.Numerals.{add-one}
 use native.Mathlib.Omega.{arith}
@@ -10,8 +10,9 @@ use mathlib.Core.List.{List, [], _∷_, _++_, append-assoc}
 use lib.ListN.{length, replicate, getD, take, drop, set, length-append, length-set, length-drop, take-append-drop, List·getD-append}
 use lib.Seq.{take-suc-set, drop-set-lt, length-take-le, take-append-seam, drop-at, getD-take, getD-drop, getD-append-add}
 use Rattle.exact.specs.Choice.{choose}
-use Rattle.exact.specs.Fixed.{bytesOf}
+use Rattle.exact.specs.Fixed.{bytesOf, little}
 use Rattle.exact.proofs.LawsChoice.{choose-yes, choose-no}
+use Rattle.exact.proofs.LawsFixed.{length-bytesOf, little-bytesOf}
 use Rattle.encoding.specs.Out.{put, Wrote, wrote, refused, after, required}
 use Rattle.encoding.specs.Shown.{Puts}
 
@@ -161,3 +162,37 @@ puts-as {n} {at} {required} {out = out} {out' = out'} {r = r} e h = subst (λ (l
 pub puts-only : {n at required : ℕ} {bs out out' out'' : List ℕ} {r s : Wrote} → Puts n at required bs out out' r →
     Puts n at required bs out out'' s → (r ≡ s) × (out' ≡ out'')
 puts-only p q = (p .answer ∙ sym (q .answer), p .output ∙ sym (q .output))
+
+not-refused : {next required n : ℕ} → wrote next required ≡ refused n → ⊥
+not-refused e = let z : _≡_ {A = ℕ} 0 1 = cc in omega arith
+
+module _ {n at required : ℕ} {bs out out' : List ℕ} where
+  -- An accepted call's bytes are there, and its answer is the place behind them ..
+  pub puts-there : {next q : ℕ} → Puts n at required bs out out' (wrote next q) →
+      (take (length bs) (drop at out') ≡ bs) × (next ≡ at + length bs) × (q ≡ required)
+  puts-there {next} {q} p =
+      by-room out at bs
+      (λ h.
+      let e = p .answer ∙ after-room n out at required bs h in
+      (ap (λ (l : List ℕ). take (length bs) (drop at l)) (p .output) ∙ put-same out at bs h, (cc), (cc)))
+      (λ h. absurd (not-refused (p .answer ∙ after-full n out at required bs h)))
+
+  -- .. a refused call changes nothing, and its answer is the number ..
+  pub puts-kept : {m : ℕ} → Puts n at required bs out out' (refused m) → (out' ≡ out) × (m ≡ n)
+  puts-kept {m} p =
+      by-room out at bs (λ h. absurd (not-refused (sym (p .answer ∙ after-room n out at required bs h))))
+      (λ h.
+      let e = p .answer ∙ after-full n out at required bs h in
+      (p .output ∙ put-full out at bs h, (cc)))
+
+  -- .. and either leaves every other byte as it was.
+  pub puts-other : {r : Wrote} (i : ℕ) → (i < at) ⊎ (at + length bs ≤ i) → Puts n at required bs out out' r →
+      getD out' i 0 ≡ getD out i 0
+  puts-other i o p = ap (λ (l : List ℕ). getD l i 0) (p .output) ∙ put-other out at bs i o
+
+-- A number that was patched in, or written, is read back.
+pub puts-number : {n at required next q : ℕ} {out out' : List ℕ} (w v : ℕ) → v < 256 ^ w →
+    Puts n at required (bytesOf w v) out out' (wrote next q) → little (take w (drop at out')) ≡ v
+puts-number {at = at} {out' = out'} w v h p =
+    let e : take w (drop at out') ≡ bytesOf w v = rw length-bytesOf at (puts-there p .0) in
+    ap little e ∙ little-bytesOf w v h

@@ -81,6 +81,18 @@ module _ (w : ℕ) (one : 1 ≤ w) where
   pattern-fits (pos n) h = omega (arith, half w one)
   pattern-fits (negsuc n) h = omega (arith, half w one)
 
+  -- What has a pattern of the width fits it.
+  pub signed-fits : (v : ℕ) → v < 2 ^ w → mag (signed w v) < 2 ^ (w - 1)
+  unfolding signed
+  signed-fits v h =
+      let d = half w one in
+      elim (decLt v (2 ^ (w - 1))) [
+        | yes k ↦ rw (choose-yes (decLt v (2 ^ (w - 1))) (pos v) (negsuc (2 ^ w - 1 - v)) k) k
+        | no k ↦
+            let l : 2 ^ w - 1 - v < 2 ^ (w - 1) = omega arith in
+            rw (choose-no (decLt v (2 ^ (w - 1))) (pos v) (negsuc (2 ^ w - 1 - v)) k) l
+      ]
+
 -- The machine's widths: twice as many bits patterns as below the sign bit.
 double : (w : Width) → 2 ^ bits w ≡ 2 * 2 ^ hbits w
 double w8 = refl

@@ -44,3 +44,8 @@ countedBytes w vs = spelling (length vs) ++ flat w vs
 -- `required_alignment` after one more was asked for: the largest of 2 or more so far, else 1.
 unfoldable pub required : ℕ → ℕ → ℕ
 required before a = choose (decLt a 2) before (max before a)
+
+-- After a list of requests, the first of them first.
+abbrev pub requiredBy : ℕ → List ℕ → ℕ
+requiredBy before [] = before
+requiredBy before (a ∷ more) = requiredBy (required before a) more

@@ -12,12 +12,20 @@ ghost use Rattle.encoding.specs.Signed as Signed;
 ghost use Rattle.encoding.specs.Signed.{pattern, signed};
 ghost use Rattle.encoding.specs.Out.{put, Tells, flat, countedBytes};
 ghost use Rattle.encoding.specs.Shown.{Writes, Patches, asked};
+ghost use Rattle.encoding.specs.Floats.{WritesFloat};
 use enums::Refusal;
 
 // Where the next byte goes, and the largest alignment asked for so far.
 pub struct EncodingWriter {
     pub at: usize,
     pub required_alignment: u64,
+}
+
+// The float types that a float attribute is written in.
+pub enum FloatType {
+    F64,
+    F8E4M3FN,
+    F8E5M2,
 }
 
 // What a writer answers: the writer behind its bytes, or a refusal's number.
@@ -331,6 +339,17 @@ impl EncodingWriter {
         ensures { λ r. ⌜ Writes self (bytesOf 8 bits) (now (out .entry)) (now (out .exit)) r ⌝ }
     {
         self.write_le_u64(out, bits)
+    }
+
+    // Write an f64, by its bits, in a float type: the 8-bit types as their byte, the others as a signed varint.
+    pub fn write_ap_float(self, out: &mut [u8], bits: u64, ty: FloatType) -> Written
+        ensures { λ r. ⌜ WritesFloat self bits ty (now (out .entry)) (now (out .exit)) r ⌝ }
+    {
+        match ty {
+            FloatType::F64 => self.write_signed_varint(out, i64_of_bits(bits)),
+            FloatType::F8E4M3FN => self.write_byte(out, float8::f64_to_f8e4m3fn(bits)),
+            FloatType::F8E5M2 => self.write_byte(out, float8::f64_to_f8e5m2(bits)),
+        }
     }
 
     // Write `count` as a varint, then the values as little-endian i64.

@@ -1,6 +1,6 @@
 -- The entries of an offset table are read exactly if an entry is. Assumes nothing.
-use mathlib.Core.Path.{_≡_, refl, sym, ap, ap₂, _∙_, subst, subst₂}
-use Prim.Native.Nat.{ℕ, zero, suc, _+_, _≤_}
+use mathlib.Core.Path.{_≡_, refl, sym, ap, _∙_, subst, subst₂}
+use Prim.Native.Nat.{ℕ, suc, _+_, _≤_}
 use native.Mathlib.Nat.{add-assoc}
 use native.Mathlib.Omega.{arith}
 use native.Mathlib.Decide.{decLe}
@@ -13,9 +13,9 @@ use Rattle.exact.specs.Sequence.{bind, Then, then}
 use Rattle.exact.specs.Choice.{choose}
 use Rattle.exact.specs.Repeat.{Many}
 use Rattle.exact.specs.Fixed.{Fixed}
-use Rattle.exact.specs.Padding.{Pad, gap, Literal, literal-of}
+use Rattle.exact.specs.Padding.{Pad, gap, literal-of}
 use Rattle.exact.specs.Tiling.{Tiled, join, sums, cut, endOf}
-use Rattle.exact.specs.Table.{Shape, Table}
+use Rattle.exact.specs.Table.{Shape}
 use Rattle.exact.specs.Entries.{raised, cutLeast, entry, entriesOf, Each, none-left, entry-of, Rows, from, rows, entries, Entries}
 use Rattle.exact.proofs.LawsExact.{same-ends, stop-not-got, got-value, got-next}
 use Rattle.exact.proofs.LawsSequence.{follow-inv, bind-ends}
@@ -74,7 +74,7 @@ module _ {A : Type 0} (c m : ℕ) {p : Parser A} {R : Lang A} (x : Ends p R) whe
       ([], record { gap = d; whole = sym (append-nil d); starts = refl }, t, sym (got-next h))
   of-sound (s ∷ ss) b n d vs j h =
       let (v, k, g, y) = follow-inv (entry c p (b + s) (cutLeast m s (endOf ss d) d))
-            (λ v j. follow (entriesOf c m p ss b n d) (λ vs k. got (v ∷ vs) k)) vs j h in
+      (λ v j. follow (entriesOf c m p ss b n d) (λ vs k. got (v ∷ vs) k)) vs j h in
       let (ws, q, f, z) = follow-inv (entriesOf c m p ss b n d) (λ vs k. got (v ∷ vs) k) vs j y in
       let (e, f′, r) = entry-inv (b + s) (cutLeast m s (endOf ss d) d) v k g in
       let (es, t, w, u) = of-sound ss b n d ws q f in
@@ -91,8 +91,14 @@ module _ {A : Type 0} (c m : ℕ) {p : Parser A} {R : Lang A} (x : Ends p R) whe
     unfolding entriesOf entry follow raised
     of-complete b n g es vs none-left = refl
     of-complete b n g es vs (entry-of {e = e} {es = fs} {v = v} {vs = ws} r t) =
-        rw (← append-assoc, ← length-append, end-of (g ++ e) fs, cut-least-seam m g e (join fs) (least e v r), x .complete e 0 v r,
-          of-complete b n (g ++ e) fs ws t)
+        rw (
+          ← append-assoc,
+          ← length-append,
+          end-of (g ++ e) fs,
+          cut-least-seam m g e (join fs) (least e v r),
+          x .complete e 0 v r,
+          of-complete b n (g ++ e) fs ws t,
+        )
 
     tiled-complete : (b n : ℕ) (ss d : List ℕ) (es : List (List ℕ)) (vs : List A) → Tiled ss d es → Each R es vs →
         entriesOf c m p ss b n d ≡ got vs n
@@ -111,7 +117,7 @@ module _ {A : Type 0} (c m : ℕ) {p : Parser A} {R : Lang A} (x : Ends p R) whe
         record {
           sound = λ l i v j e.
               let (vs, k, g, h) = follow-inv (entriesOf c m p ss i (length l) (drop i l))
-                    (λ vs j. got (record { at = from (o + i) ss; values = vs }) j) v j e in
+              (λ vs j. got (record { at = from (o + i) ss; values = vs }) j) v j e in
               let (es, t, r, n) = of-sound ss i (length l) (drop i l) vs k g in
               let q = got-value h in (
                 record { parts = es; tiled = t; placed = sym (ap (λ z. z .at) q); read = subst (Each R es) (ap (λ z. z .values) q) r },
@@ -152,7 +158,7 @@ to-entries {C = C} x w a o i bs v (then {bs = c} {v = n} s (then literal-of (the
     let es : List (List ℕ) = r .parts in
     let q : n ≡ length es = many-length n _ b ss t ∙ ap length (r .tiled .starts) ∙ length-sums (length (r .tiled .gap)) es in
     let k : o + (i + length c + length p + length b) + length (r .tiled .gap) ≡
-          o + i + length c + length p + length b + length (r .tiled .gap) = omega arith in
+    o + i + length c + length p + length b + length (r .tiled .gap) = omega arith in
     record {
       parts = es;
       table = record {
@@ -179,12 +185,12 @@ of-entries x w a o {R = R} i bs v e =
     let p : Pad x a (i + length (t .count)) (t .pads) tt = rw (t .padded) literal-of in
     let k : o + i + length (t .count) + length (t .pads) + length (t .starts) + length (t .before) ≡ o + j + length (t .before) = omega arith in
     let d : Cuts o R (sums (length (t .before)) (e .parts)) j (t .before ++ join (e .parts)) v =
-          record {
-            parts = e .parts;
-            tiled = record { gap = t .before; whole = refl; starts = refl };
-            placed = e .placed ∙ ap (λ n. sums n (e .parts)) k ∙ sym (from-sums (o + j) (length (t .before)) (e .parts));
-            read = e .read;
-          } in
+    record {
+      parts = e .parts;
+      tiled = record { gap = t .before; whole = refl; starts = refl };
+      placed = e .placed ∙ ap (λ n. sums n (e .parts)) k ∙ sym (from-sums (o + j) (length (t .before)) (e .parts));
+      read = e .read;
+    } in
     rw (t .whole) (then (t .counted) (then p (then (t .started) d)))
 
 -- An offset table whose entries are read to their end is read exactly.

@@ -1,4 +1,5 @@
--- A refusal of a passed place reads nothing, and a table of kinds with it is read exactly if each kind is. Assumes nothing.
+-- A refusal of a passed place reads nothing, and a table of kinds with it is read exactly if each kind is. Assumes
+-- nothing.
 use Prim.Native.Nat.{ℕ}
 use native.Mathlib.Decide.{ℕ-discrete}
 use mathlib.Core.List.{List, [], _∷_}

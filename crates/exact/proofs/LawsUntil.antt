@@ -1,18 +1,18 @@
 -- Items up to an end marker are read exactly, if each takes a byte at least. Assumes nothing.
-use mathlib.Core.Path.{_≡_, refl, sym, ap, _∙_, subst}
-use Prim.Native.Nat.{ℕ, zero, suc, _+_, _-_, _≤_}
+use mathlib.Core.Path.{_≡_, refl, ap, _∙_, subst}
+use Prim.Native.Nat.{ℕ, zero, suc, _+_, _-_, _≤_, _<_}
 use native.Mathlib.Nat.{add-assoc}
 use native.Mathlib.Omega.{arith}
 use mathlib.Core.Option.{Option, none, some}
 use mathlib.Core.List.{List, [], _∷_, _++_, append-assoc}
 use lib.ListN.{length, drop, length-append, length-drop}
-use Rattle.exact.specs.Got.{Got, got, stop, follow, ended}
+use Rattle.exact.specs.Got.{Got, got, stop, ended, follow}
 use Rattle.exact.specs.Exact.{Parser, Lang, Reads, Exact}
 use Rattle.exact.specs.Basic.{pure, fail}
 use Rattle.exact.specs.Sequence.{bind, map}
 use Rattle.exact.specs.Until.{goOn, untilFrom, until, Until, end, item}
 use Rattle.exact.proofs.LawsExact.{drop-past, stop-not-got, reads-as}
-use Rattle.exact.proofs.LawsSequence.{follow-inv, bind-got}
+use Rattle.exact.proofs.LawsSequence.{follow-inv}
 
 module _ {A : Type 0} {p : Parser (Option A)} {R : Lang (Option A)} (x : Exact p R) where
   end-reads : (l : List ℕ) (i j k : ℕ) (vs : List A) → Reads R l i none j → got [] j ≡ got vs k → Reads (Until R) l i vs k
@@ -55,8 +55,12 @@ module _ {A : Type 0} {p : Parser (Option A)} {R : Lang (Option A)} (x : Exact p
     from-complete (suc n) l i bs rest vs (item {bs = b} {cs = c} {v = v} {vs = ws} r u) h d =
         let d′ : drop i l ≡ b ++ (c ++ rest) = d ∙ append-assoc b c rest in
         let m : length c ≤ n = omega (arith, some-bytes i b (some v) r, length-append b c) in
-        rw (x .complete l i b (c ++ rest) (some v) r d′, from-complete n l (i + length b) c rest ws u m (drop-past l i b (c ++ rest) d′),
-          length-append, ← add-assoc)
+        rw (
+          x .complete l i b (c ++ rest) (some v) r d′,
+          from-complete n l (i + length b) c rest ws u m (drop-past l i b (c ++ rest) d′),
+          length-append,
+          ← add-assoc,
+        )
 
     -- Items up to the end marker.
     pub until-exact : Exact (until p) (Until R)
@@ -68,3 +72,42 @@ module _ {A : Type 0} {p : Parser (Option A)} {R : Lang (Option A)} (x : Exact p
               from-complete (length l - i) l i bs rest vs u
               (omega (arith, length-drop i l, ap length d, length-append bs rest)) d;
         }
+
+  -- What goes on the same way from each item is the same.
+  same-on : (q r : Parser (List A)) (l : List ℕ) (i : ℕ) → ((v : A) (j : ℕ) → p l i ≡ got (some v) j → q l j ≡ r l j) →
+      (g : Got (Option A)) → p l i ≡ g → follow g (λ o j. goOn o q l j) ≡ follow g (λ o j. goOn o r l j)
+  unfolding follow goOn map bind
+  same-on q r l i h (got none j) e = refl
+  same-on q r l i h (got (some v) j) e = rw (h v j e)
+  same-on q r l i h (stop c k) e = refl
+
+  module _ (some-bytes : (i : ℕ) (bs : List ℕ) (o : Option A) → R i bs o → 1 ≤ length bs)
+      (at-end : (l : List ℕ) (i : ℕ) → length l ≤ i → p l i ≡ stop ended i) where
+    less-left : (l : List ℕ) (i : ℕ) (o : Option A) (j : ℕ) → p l i ≡ got o j → length l - j < length l - i
+    less-left l i o j e =
+        let r = x .sound l i o j e in
+        let n : length (drop i l) ≡ length (r .bytes) + length (drop j l) = rw (r .there, length-append) in
+        omega (arith, r .next, some-bytes i (r .bytes) o (r .spelt), length-drop i l, length-drop j l)
+
+    -- As many bytes as are left are enough.
+    fuel : (n m : ℕ) (l : List ℕ) (i : ℕ) → length l - i ≤ n → length l - i ≤ m → untilFrom n p l i ≡ untilFrom m p l i
+    unfolding untilFrom bind follow fail
+    fuel zero zero l i h k = refl
+    fuel zero (suc m) l i h k = let f : length l ≤ i = omega arith in rw (at-end l i f)
+    fuel (suc n) zero l i h k = let f : length l ≤ i = omega arith in rw (at-end l i f)
+    fuel (suc n) (suc m) l i h k =
+        same-on (untilFrom n p) (untilFrom m p) l i
+        (λ v j e. fuel n m l j (omega (arith, less-left l i (some v) j e)) (omega (arith, less-left l i (some v) j e)))
+        (p l i) refl
+
+    once : (n : ℕ) (l : List ℕ) (i : ℕ) → length l - i ≤ n → untilFrom (suc n) p l i ≡ bind p (λ o. goOn o (until p)) l i
+    unfolding untilFrom bind until
+    once n l i h =
+        same-on (untilFrom n p) (λ l j. untilFrom (length l - j) p l j) l i
+        (λ v j e. fuel n (length l - j) l j (omega (arith, less-left l i (some v) j e)) (omega arith)) (p l i) refl
+
+    -- The equation that a loop follows: the marker ends it, an item goes on behind itself.
+    pub until-step : (l : List ℕ) (i : ℕ) → until p l i ≡ bind p (λ o. goOn o (until p)) l i
+    unfolding until bind
+    until-step l i =
+        fuel (length l - i) (suc (length l - i)) l i (omega arith) (omega arith) ∙ once (length l - i) l i (omega arith)

@@ -1,18 +1,18 @@
 -- Reading with leftovers, reading all, and the place at hand, are exact; a choice between readers to the end too.
 -- Assumes nothing.
-use mathlib.Core.Path.{_≡_, refl, sym, ap, _∙_}
+use mathlib.Core.Path.{_≡_, refl, sym, _∙_}
 use Prim.Native.Nat.{ℕ, _+_}
 use native.Mathlib.Nat.{add-zero}
 use native.Mathlib.Omega.{arith}
 use mathlib.Core.List.{List, [], _++_}
 use lib.ListN.{length, drop}
-use Rattle.exact.specs.Got.{Got, got, stop, follow}
+use Rattle.exact.specs.Got.{got, follow}
 use Rattle.exact.specs.Exact.{Parser, Lang, Exact, Ends}
 use Rattle.exact.specs.Choice.{choose, If, so, else}
 use Rattle.exact.specs.Sequence.{map, bind, Of, of}
 use Rattle.exact.specs.Basic.{pure}
 use Rattle.exact.specs.Upto.{upto, Upto, upto-of, whole, Whole, whole-of, place, At, at}
-use Rattle.exact.proofs.LawsExact.{same-ends, stop-not-got, got-value, got-next}
+use Rattle.exact.proofs.LawsExact.{same-ends, got-value, got-next}
 use Rattle.exact.proofs.LawsSequence.{follow-inv}
 
 module _ {A : Type 0} {p : Parser A} {R : Lang A} (x : Exact p R) where

@@ -15,3 +15,4 @@ pub mod LawsRefuse
 pub mod LawsUpto
 pub mod LawsUntil
 pub mod LawsEntries
+pub mod LawsJoined

@@ -1,10 +1,10 @@
--- The entries of an offset table, each read as a payload of its own: first all starts, then, entry by entry, its bounds
--- and after them its fields.
+-- The entries of an offset table, each read as a payload of its own: first all starts, then, entry by entry, its
+-- bounds and after them its fields.
 use mathlib.Core.Path.{_≡_}
-use Prim.Native.Nat.{ℕ, _+_, _≤_}
+use Prim.Native.Nat.{ℕ, _+_}
 use native.Mathlib.Decide.{decLe}
 use mathlib.Core.Option.{Option, none, some}
-use mathlib.Core.List.{List, [], _∷_, _++_}
+use mathlib.Core.List.{List, [], _∷_}
 use lib.ListN.{length, drop}
 use Rattle.exact.specs.Got.{Got, got, stop, follow}
 use Rattle.exact.specs.Exact.{Parser, Lang}
@@ -34,7 +34,8 @@ entry c p b (some x) = raised b (p x 0)
 unfoldable pub entriesOf : {A : Type 0} → ℕ → ℕ → Parser A → List ℕ → ℕ → ℕ → List ℕ → Got (List A)
 entriesOf c m p [] b n d = got [] n
 entriesOf c m p (s ∷ ss) b n d =
-    follow (entry c p (b + s) (cutLeast m s (endOf ss d) d)) (λ v j. follow (entriesOf c m p ss b n d) (λ vs k. got (v ∷ vs) k))
+    follow (entry c p (b + s) (cutLeast m s (endOf ss d) d))
+    (λ v j. follow (entriesOf c m p ss b n d) (λ vs k. got (v ∷ vs) k))
 
 -- Each entry, as a payload of its own, stands for its value.
 pub data Each {A : Type 0} (R : ℕ → List ℕ → A → Type 0) : List (List ℕ) → List A → Type 0 where
@@ -61,10 +62,11 @@ unfoldable pub entries : {A : Type 0} → Shape → ℕ → ℕ → ℕ → ℕ 
 entries f w a o m p n =
     bind (pad (f .unpadded) (f .fill) a) (λ u. bind (times n (fixed w)) (λ ss. rows o (f .untiled) m p ss))
 
--- An offset table whose entries are of R: the places of the values are the running sums of the entries' lengths from the
--- place of the first entry, which stands behind count, padding, starts and gap.
+-- An offset table whose entries are of R: the places of the values are the running sums of the entries' lengths from
+-- the place of the first entry, which stands behind count, padding, starts and gap.
 pub record Entries {A : Type 0} (C : Lang ℕ) (x w a o : ℕ) (R : Lang A) (i : ℕ) (bs : List ℕ) (v : Rows A) : Type 0 where
   pub parts : List (List ℕ)
   pub table : Table C x w a i bs parts
-  pub placed : v .at ≡ sums (o + i + length (table .count) + length (table .pads) + length (table .starts) + length (table .before)) parts
+  pub placed : v .at ≡
+      sums (o + i + length (table .count) + length (table .pads) + length (table .starts) + length (table .before)) parts
   pub read : Each R parts (v .values)

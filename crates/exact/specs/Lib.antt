@@ -15,3 +15,4 @@ pub mod Refuse
 pub mod Upto
 pub mod Until
 pub mod Entries
+pub mod Joined

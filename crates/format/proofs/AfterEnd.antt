@@ -7,10 +7,10 @@ use lib.ListN.{length}
 use Rattle.exact.proofs.LawsChoice.{choose-yes}
 use Rattle.format.specs.Tables.{Version, Tables}
 use Rattle.format.specs.Sections.{Section}
-use Rattle.format.specs.Explains.{Container, Explains}
-use Rattle.format.specs.Read.{Read, accepted, mapRead}
-use Rattle.format.specs.Decode.{mostBytes, readPlaced, placed, onlyTables, decode}
-use Rattle.format.proofs.Decoded.{read-container, decode-sound}
+use Rattle.format.specs.Explains.{Container}
+use Rattle.format.specs.Read.{accepted, mapRead}
+use Rattle.format.specs.Decode.{mostBytes, placed, onlyTables, decode}
+use Rattle.format.proofs.Decoded.{read-container}
 
 -- The file up to its end marker, with other bytes after it.
 abbrev pub withAfter : {file : List ℕ} {v : Version} {ss : List Section} → Container file v ss → List ℕ → List ℕ
@@ -22,7 +22,7 @@ pub after-answer : (file : List ℕ) (v : Version) (ss : List Section) (c : Cont
 unfolding placed
 after-answer file v ss c other h k =
     let d : Container (withAfter c other) v ss =
-          record { header = c .header; walked = c .walked; after = other; whole = refl; headed = c .headed; laid = c .laid } in
+    record { header = c .header; walked = c .walked; after = other; whole = refl; headed = c .headed; laid = c .laid } in
     choose-yes (decLe (length (withAfter c other)) mostBytes) _ _ k ∙ read-container (withAfter c other) v ss d ∙
     sym (read-container file v ss c) ∙ sym (choose-yes (decLe (length file) mostBytes) _ _ h)
 

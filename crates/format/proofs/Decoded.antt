@@ -1,6 +1,6 @@
 -- The reader accepts exactly the files that a layout explains, and a file has one layout. Assumes nothing.
 use mathlib.Core.Path.{_≡_, refl, sym, ap, _∙_, subst}
-use Prim.Native.Nat.{ℕ, _+_, _≤_}
+use Prim.Native.Nat.{ℕ, _+_, _≤_, _<_}
 use native.Mathlib.Nat.{zero-add}
 use native.Mathlib.Omega.{arith}
 use native.Mathlib.Decide.{decLe}
@@ -10,7 +10,7 @@ use lib.ListN.{length, drop}
 use Rattle.exact.specs.Got.{Got, got, stop}
 use Rattle.exact.specs.Choice.{choose}
 use Rattle.exact.proofs.LawsExact.{drop-past}
-use Rattle.exact.proofs.LawsChoice.{choose-yes}
+use Rattle.exact.proofs.LawsChoice.{choose-yes, choose-no}
 use Rattle.enums.specs.Container.{stringId, funcId, debugId, constantId, typeId, globalId, producerId, sectionIds}
 use Rattle.enums.specs.Refusals as refusals
 use Rattle.format.specs.Tables.{Version, Tables}
@@ -19,34 +19,50 @@ use Rattle.format.specs.Strings.{noRows}
 use Rattle.format.specs.Debug.{noDebug}
 use Rattle.format.specs.Explains.{Placed, Container, class, Layout, Explains}
 use Rattle.format.specs.Read.{Read, accepted, refused, atStage, mapRead}
-use Rattle.format.specs.DecodeContainer.{headerAt, sectionsAt, lastWith, placesOf, inSection}
-use Rattle.format.specs.Decode.{mostBytes, payloads, readPlaced, placed, onlyTables, decode}
+use Rattle.format.specs.DecodeContainer.{headerAt, sectionsAt}
+use Rattle.format.specs.Decode.{mostBytes, gathered, payloads, readPlaced, placed, onlyTables, decode}
 use Rattle.format.proofs.LawsTables.{strings-ends, constants-ends, types-ends, producer-ends}
 use Rattle.format.proofs.LawsRows.{globals-ends, functions-ends}
 use Rattle.format.proofs.LawsDebug.{debug-ends}
 use Rattle.format.proofs.LawsContainer.{header-exact, sections-exact}
 use Rattle.format.proofs.LawsLast.{section-sound, section-complete, places-sound, places-complete}
 
-accepted-value : {A : Type 0} {v w : A} → accepted v ≡ accepted w → v ≡ w
+pub accepted-value : {A : Type 0} {v w : A} → accepted v ≡ accepted w → v ≡ w
 accepted-value e = cc
 
-refused-not-accepted : {A : Type 0} {c n i : ℕ} {v : A} → refused c n i ≡ accepted v → ⊥
+pub refused-not-accepted : {A : Type 0} {c n i : ℕ} {v : A} → refused c n i ≡ accepted v → ⊥
 refused-not-accepted e = let z : _≡_ {A = ℕ} 0 1 = cc in omega arith
 
 -- An accepted stage has read something ..
-stage-inv : {A B : Type 0} (n : ℕ) (g : Got A) (k : A → ℕ → Read B) (w : B) → atStage n g k ≡ accepted w →
+pub stage-inv : {A B : Type 0} (n : ℕ) (g : Got A) (k : A → ℕ → Read B) (w : B) → atStage n g k ≡ accepted w →
     (v : A) × (j : ℕ) × (g ≡ got v j) × (k v j ≡ accepted w)
 unfolding atStage
 stage-inv n (got v j) k w e = (v, j, refl, e)
 stage-inv n (stop c i) k w e = absurd (refused-not-accepted e)
 
 -- .. and goes on with it.
-stage-got : {A B : Type 0} (n : ℕ) (g : Got A) (k : A → ℕ → Read B) (v : A) (j : ℕ) (r : Read B) → g ≡ got v j → k v j ≡ r →
+pub stage-got : {A B : Type 0} (n : ℕ) (g : Got A) (k : A → ℕ → Read B) (v : A) (j : ℕ) (r : Read B) → g ≡ got v j → k v j ≡ r →
     atStage n g k ≡ r
 unfolding atStage
 stage-got n g k v j r e h = rw e h
 
--- A file that is a header and sections is read by its payloads.
+-- What the header and the walk read is the container ..
+pub container-of : (file : List ℕ) (v : Version) (j : ℕ) (ss : List Section) (k : ℕ) → headerAt file 0 ≡ got v j →
+    sectionsAt file j ≡ got ss k → Container file v ss
+container-of file v j ss k h g =
+    let a = header-exact .sound file 0 v j h in
+    let b = sections-exact .sound file j ss k g in
+    let n : j ≡ length (a .bytes) = omega (arith, a .next) in
+    record {
+      header = a .bytes;
+      walked = b .bytes;
+      after = drop k file;
+      whole = a .there ∙ ap (λ r. a .bytes ++ r) (b .there);
+      headed = a .spelt;
+      laid = subst (λ i. Sections i (b .bytes) ss) n (b .spelt);
+    }
+
+-- .. and a container is read by its payloads.
 pub read-container : (file : List ℕ) (v : Version) (ss : List Section) → Container file v ss → readPlaced file ≡ payloads v ss
 unfolding readPlaced
 read-container file v ss c =
@@ -67,8 +83,9 @@ module _ (file : List ℕ) (x : Placed) where
       let (g, i5, h5, e5) = stage-inv _ _ _ x e4 in
       let (f, i6, h6, e6) = stage-inv _ _ _ x e5 in
       let (d, i7, h7, e7) = stage-inv _ _ _ x e6 in
-      let q = accepted-value e7 in
-      subst (Layout file) q
+      let y : Placed = gathered v ss s p t c g f d in
+      let q : y ≡ x = accepted-value {v = y} e7 in
+      subst (Layout file) {x = y} q
       record {
         sections = ss;
         container = box;
@@ -88,10 +105,10 @@ module _ (file : List ℕ) (x : Placed) where
       let ss = l .sections in
       let c = class (x .tables .version) in
       let gather : List Place → Read Placed = λ ps. accepted
-            (record {
-              tables = x .tables;
-              places = record { strings = x .places .strings; constants = x .places .constants; bodies = x .places .bodies; sections = ps };
-            }) in
+      (record {
+        tables = x .tables;
+        places = record { strings = x .places .strings; constants = x .places .constants; bodies = x .places .bodies; sections = ps };
+      }) in
       let (i1, h1) = section-complete stringId ss strings-ends noRows _ (l .strings) in
       let (i2, h2) = section-complete producerId ss (λ o. producer-ends (length (x .tables .strings))) none _ (l .producer) in
       let (i3, h3) = section-complete typeId ss (types-ends c) [] _ (l .types) in
@@ -108,18 +125,7 @@ module _ (file : List ℕ) (x : Placed) where
   read-sound e =
       let (v, j, h, e1) = stage-inv _ _ _ x e in
       let (ss, k, g, e2) = stage-inv _ _ _ x e1 in
-      let a = header-exact .sound file 0 v j h in
-      let b = sections-exact .sound file j ss k g in
-      let n : j ≡ length (a .bytes) = omega (arith, a .next) in
-      payloads-sound v ss
-      record {
-        header = a .bytes;
-        walked = b .bytes;
-        after = drop k file;
-        whole = a .there ∙ ap (λ r. a .bytes ++ r) (b .there);
-        headed = a .spelt;
-        laid = subst (λ i. Sections i (b .bytes) ss) n (b .spelt);
-      } e2
+      payloads-sound v ss (container-of file v j ss k h g) e2
 
   -- .. and what is laid out so is read.
   read-complete : Layout file x → readPlaced file ≡ accepted x
@@ -168,3 +174,12 @@ decode-sound file t e =
 pub decode-complete : (file : List ℕ) (t : Tables) → Explains file t → length file ≤ mostBytes → decode file ≡ accepted t
 unfolding decode mapRead
 decode-complete file t e h = rw (placed-complete file _ (e .layout) h)
+
+-- So a file within the limit that is refused stands for nothing.
+pub decode-refused : (file : List ℕ) (c n i : ℕ) → decode file ≡ refused c n i → length file ≤ mostBytes → (t : Tables) → ¬ Explains file t
+decode-refused file c n i e h t x = refused-not-accepted (sym e ∙ decode-complete file t x h)
+
+-- A file over the limit is refused before anything is read.
+pub decode-limit : (file : List ℕ) → mostBytes < length file → decode file ≡ refused refusals.limit refusals.atLimits 0
+unfolding decode placed mapRead
+decode-limit file h = rw (choose-no (decLe (length file) mostBytes) (readPlaced file) _ (omega arith))

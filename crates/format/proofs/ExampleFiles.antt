@@ -1,7 +1,7 @@
 -- Example files, part by part, and what they stand for: the whole case of document 01, what a layout leaves free, the
 -- version classes, and every table. Assumes nothing.
 use Prim.Native.Nat.{ℕ}
-use mathlib.Core.Option.{Option, none, some}
+use mathlib.Core.Option.{none, some}
 use mathlib.Core.List.{List, [], _∷_, _++_}
 use lib.ListN.{length}
 use Rattle.exact.specs.Tiling.{join, sums}
@@ -9,7 +9,7 @@ use Rattle.enums.specs.Container as id
 use Rattle.enums.specs.Container.{magic, P}
 use Rattle.enums.specs.Types as tags
 use Rattle.enums.specs.Debug as di
-use Rattle.format.specs.Tables.{Tables, TypeRow, plain, pointer, tile, tensorView, partitionView, gatherScatterView, stridedView, function}
+use Rattle.format.specs.Tables.{Tables, TypeRow, plain, pointer, tile, tensorView, gatherScatterView, stridedView, function}
 use Rattle.format.specs.Sections.{Place}
 use Rattle.format.specs.Explains.{Placed}
 use Rattle.format.specs.Debug.{attributeOf}
@@ -63,9 +63,9 @@ wholeCase =
     magic ++ (0x0D ∷ 0x01 ∷ 0x00 ∷ 0x00 ∷ 0x81 ∷ 0x0F ∷ 0x04 ∷ P ∷ 0x02 ∷ P ∷ P ∷ P ∷ 0x00 ∷ 0x00 ∷ 0x00 ∷ 0x00 ∷
     0x01 ∷ 0x00 ∷ 0x00 ∷ 0x00 ∷ 0x61 ∷ 0x62 ∷ 0x63 ∷ 0x00 ∷ [])
 
--- The same tables otherwise: a section with an unknown id, an earlier String section of any bytes, longer spellings of
--- length (16), alignment (7) and count (2), an odd alignment, a gap before the first entry, the end marker with its top bit
--- set, and bytes after it.
+-- The same tables otherwise: a section with an unknown id, an earlier String section of any bytes, longer spellings
+-- of length (16), alignment (7) and count (2), an odd alignment, a gap before the first entry, the end marker with
+-- its top bit set, and bytes after it.
 abbrev pub freeCase : List ℕ
 freeCase =
     header 13 1 ++ (bare 0x7F (0xAA ∷ 0xBB ∷ []) ++ (bare id.stringId (0xFF ∷ []) ++
@@ -117,7 +117,8 @@ globalPayload = 1 ∷ 0 ∷ 1 ∷ 0 ∷ 8 ∷ 1 ∷ 5 ∷ 0xEE ∷ []
 abbrev pub functionPayload : List ℕ
 functionPayload = 2 ∷ 1 ∷ 6 ∷ 2 ∷ 0 ∷ 3 ∷ 0xAA ∷ 0xBB ∷ 0xCC ∷ 0 ∷ 6 ∷ 1 ∷ 0 ∷ 0 ∷ []
 
--- Three lists over the ids 9, 1, 2, the first id in none of them and the second list empty; then a DIFile and an Unknown.
+-- Three lists over the ids 9, 1, 2, the first id in none of them and the second list empty; then a DIFile and an
+-- Unknown.
 abbrev pub debugPayload : List ℕ
 debugPayload =
     (3 ∷ P ∷ P ∷ P ∷ (u32 1 ++ (u32 2 ++ u32 2))) ++ ((3 ∷ P ∷ P ∷ P ∷ P ∷ P ∷ P ∷ P ∷ (u64 9 ++ (u64 1 ++ u64 2))) ++

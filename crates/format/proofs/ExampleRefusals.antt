@@ -3,7 +3,7 @@
 use Prim.Native.Nat.{ℕ}
 use mathlib.Core.List.{List, [], _∷_, _++_}
 use Rattle.enums.specs.Container as id
-use Rattle.enums.specs.Container.{magic, P}
+use Rattle.enums.specs.Container.{P}
 use Rattle.enums.specs.Types as tags
 use Rattle.format.proofs.ExampleFiles.{header, u32, u64, bare, table, abc}
 
@@ -49,8 +49,8 @@ endOutside = oneSection id.stringId (0x02 ∷ P ∷ P ∷ P ∷ (u32 0 ++ (u32 9
 abbrev pub producerOutside : List ℕ
 producerOutside = header 13 1 ++ (bare id.stringId (table abc) ++ (bare id.producerId (0x02 ∷ []) ++ (0x00 ∷ [])))
 
--- Type: an unknown tag; one above 255, whose low byte is known; an empty entry; an entry that ends before its field; and
--- three entries of which the first has an unknown tag and the second bad bounds.
+-- Type: an unknown tag; one above 255, whose low byte is known; an empty entry; an entry that ends before its field;
+-- and three entries of which the first has an unknown tag and the second bad bounds.
 abbrev pub unknownTag : List ℕ
 unknownTag = oneSection id.typeId (table ((23 ∷ []) ∷ []))
 

@@ -1,20 +1,19 @@
 -- Header and sections are read exactly, and the last section with an id is the one that counts. Assumes nothing.
-use mathlib.Core.Path.{_≡_, refl, sym, ap, ap₂, _∙_, subst}
+use mathlib.Core.Path.{_≡_, refl, sym, ap, ap₂, subst}
 use Prim.Native.Nat.{ℕ, _+_, _%_, _≤_, _<_}
-use native.Mathlib.Nat.{add-zero}
 use native.Mathlib.Omega.{arith}
 use native.Mathlib.Decide.{decLt, ℕ-discrete}
 use mathlib.Core.Bool.{Bool, true, false, _&&_, Bool-discrete, false≢true}
 use mathlib.Core.Option.{Option, none, some}
 use mathlib.Core.List.{List, [], _∷_, _++_}
 use lib.Dec.{T, eqb, eqb→eq}
-use lib.ListN.{length, replicate, length-append}
+use lib.ListN.{length}
 use Rattle.exact.specs.Exact.{Lang, Exact}
 use Rattle.exact.specs.Basic.{One, one, Is, is}
 use Rattle.exact.specs.Sequence.{Then, then, Of, of}
 use Rattle.exact.specs.Choice.{If, so, else, Such, such-of}
 use Rattle.exact.specs.Fixed.{Raw, raw-of, Fixed}
-use Rattle.exact.specs.Padding.{Pad, gap, Literal, literal-of}
+use Rattle.exact.specs.Padding.{Pad, literal-of}
 use Rattle.exact.specs.Upto.{At, at}
 use Rattle.exact.proofs.LawsExact.{same-exact}
 use Rattle.exact.proofs.LawsBasic.{byte-exact, pure-exact}
@@ -25,9 +24,6 @@ use Rattle.exact.proofs.LawsPadding.{blamed-exact}
 use Rattle.exact.proofs.LawsUpto.{place-exact}
 use Rattle.exact.proofs.LawsUntil.{until-exact}
 use Rattle.enums.specs.Container.{P, magic, endOfBytecode}
-use Rattle.enums.specs.Refusals as refusals
-use Rattle.encoding.specs.Varint.{Spells}
-use Rattle.encoding.proofs.LawsVarint.{digits-some}
 use Rattle.reading.proofs.LawsNumbers.{varint-exact, padding-exact}
 use Rattle.format.specs.Tables.{Version}
 use Rattle.format.specs.Items.{Number}
@@ -71,7 +67,7 @@ pub header-exact : Exact headerAt (λ i. Header)
 unfolding headerAt magicAt
 header-exact =
     same-exact
-    (bind-exact (blamed-exact (such-exact refusals.notMagic (λ m. Bool-discrete (same m magic) true) (raw-exact 8)))
+    (bind-exact (blamed-exact (such-exact _ (λ m. Bool-discrete (same m magic) true) (raw-exact 8)))
     (λ m. bind-exact byte-exact (λ a. bind-exact byte-exact (λ b. map-exact (λ t. versionOf a b t) (fixed-exact 2)))))
     (λ i bs v. (to-header i bs v, of-header i bs v))
 
@@ -130,10 +126,10 @@ to-item i bs o (then (one {b = b}) (else h (of (then {bs = n} s (then {bs = a} g
 of-section : (i : ℕ) (bs : List ℕ) (s : Section) → SectionAt i bs s → ItemChain i bs (some s)
 of-section i bs s r =
     let c : SectionChain (r .first) (i + 1) (r .size ++ (r .alignment ++ s .payload))
-          (sectionOf (r .first) (i + 1 + length (r .size) + length (r .alignment)) (s .payload)) =
-          then (r .sized) (then (r .alignedTo) (then at (of (raw-of refl)))) in
+    (sectionOf (r .first) (i + 1 + length (r .size) + length (r .alignment)) (s .payload)) =
+    then (r .sized) (then (r .alignedTo) (then at (of (raw-of refl)))) in
     let e : sectionOf (r .first) (i + 1 + length (r .size) + length (r .alignment)) (s .payload) ≡ s =
-          ap₂ (λ n k. record { id = n; start = k; payload = s .payload }) (sym (r .named)) (sym (r .starts)) in
+    ap₂ (λ n k. record { id = n; start = k; payload = s .payload }) (sym (r .named)) (sym (r .starts)) in
     rw (r .whole) (then one (else (r .notEnd) (of (subst (SectionChain (r .first) (i + 1) _) e c))))
 
 of-item : (i : ℕ) (bs : List ℕ) (o : Option Section) → Item i bs o → ItemChain i bs o
@@ -148,7 +144,7 @@ item-exact =
     (λ first. choose-exact (ℕ-discrete (first % 128) endOfBytecode) (pure-exact none) (map-exact some (section-chain-exact first))))
     (λ i bs o. (to-item i bs o, of-item i bs o))
 
-item-some : (i : ℕ) (bs : List ℕ) (o : Option Section) → Item i bs o → 1 ≤ length bs
+pub item-some : (i : ℕ) (bs : List ℕ) (o : Option Section) → Item i bs o → 1 ≤ length bs
 item-some i bs o (marker h) = omega arith
 item-some i bs o (section r) = rw (r .whole) (omega arith)
 

@@ -1,16 +1,16 @@
 -- Debug is read exactly. Assumes nothing.
-use mathlib.Core.Path.{_≡_, refl, sym, ap, _∙_, subst}
-use Prim.Native.Nat.{ℕ, _+_, _≤_, _<_}
+use mathlib.Core.Path.{_≡_, refl, sym, _∙_, subst}
+use Prim.Native.Nat.{ℕ, _≤_, _<_}
 use native.Mathlib.Omega.{arith}
 use native.Mathlib.Decide.{decLt}
 use mathlib.Core.Option.{Option, none, some}
-use mathlib.Core.List.{List, [], _∷_, _++_}
+use mathlib.Core.List.{List}
 use lib.ListN.{length, drop, getD}
 use Rattle.exact.specs.Got.{got, follow}
-use Rattle.exact.specs.Exact.{Lang, Exact, Ends}
+use Rattle.exact.specs.Exact.{Lang, Ends}
 use Rattle.exact.specs.Basic.{One, one, Never}
 use Rattle.exact.specs.Sequence.{bind, Then, then, Of, of}
-use Rattle.exact.specs.Choice.{If, so, else}
+use Rattle.exact.specs.Choice.{If, so}
 use Rattle.exact.specs.Repeat.{Many}
 use Rattle.exact.specs.Tiling.{Tiled, cuts}
 use Rattle.exact.specs.Upto.{Upto, upto-of}
@@ -26,7 +26,6 @@ use Rattle.exact.proofs.LawsRefuse.{refuse-exact}
 use Rattle.exact.proofs.LawsUpto.{upto-ends}
 use Rattle.exact.proofs.LawsEntries.{counted-entries-ends}
 use Rattle.enums.specs.Container.{P}
-use Rattle.enums.specs.Refusals as refusals
 use Rattle.reading.proofs.LawsNumbers.{varint-exact}
 use Rattle.format.specs.Tables.{Attribute}
 use Rattle.format.specs.Items.{Number, Padded}
@@ -50,7 +49,7 @@ attribute-ends =
     same-ends
     (upto-ends (here-exact {R = λ k. Tagged} (λ k. bind-exact byte-exact
     (λ t. choose-exact (decLt t (length fieldCounts)) (map-exact (attributeOf t) (times-exact (getD fieldCounts t 0) varint-exact))
-    (refuse-exact refusals.debugTag k)))))
+    (refuse-exact _ k)))))
     (λ i bs v. (to-attribute i bs v, of-attribute i bs v))
 
 attribute-some : (e : List ℕ) (v : Attribute) → AttributeEntry 0 e v → 1 ≤ length e
@@ -90,7 +89,7 @@ module _ (starts ids : List ℕ) where
             let (lists, c, q, n) = lists-inv rows (cuts starts ids) l k v j h in
             let a = attributes-ends .sound l i rows k g in
             let r : Both starts ids i (drop i l) (record { attributes = rows .values; lists = lists }) =
-                  both (a .0) (cuts-exact starts ids lists .0 c) in
+            both (a .0) (cuts-exact starts ids lists .0 c) in
             (subst (Both starts ids i (drop i l)) q r, sym n ∙ a .1);
         complete = λ l i v r. both-complete l i (drop i l) v r refl;
       }

@@ -1,15 +1,15 @@
 -- The items of payloads are read exactly. Assumes nothing.
-use mathlib.Core.Path.{_≡_, refl, sym, ap, _∙_, subst}
+use mathlib.Core.Path.{_≡_, sym, subst}
 use Prim.Native.Nat.{ℕ, _+_}
-use mathlib.Core.List.{List, [], _∷_, _++_}
+use mathlib.Core.List.{List}
 use lib.ListN.{length, length-replicate}
 use Rattle.exact.specs.Exact.{Parser, Lang, Exact}
 use Rattle.exact.specs.Basic.{byte, One, one, Is, is}
 use Rattle.exact.specs.Sequence.{map, Then, then, Of, of}
 use Rattle.exact.specs.Choice.{If, so, else}
 use Rattle.exact.specs.Repeat.{Many, nil, cons, Counted, counted-of}
-use Rattle.exact.specs.Fixed.{Raw, raw-of, Fixed}
-use Rattle.exact.specs.Padding.{Pad, gap, Literal, literal-of}
+use Rattle.exact.specs.Fixed.{raw-of, Fixed}
+use Rattle.exact.specs.Padding.{Pad, gap, literal-of}
 use Rattle.exact.proofs.LawsExact.{same-exact}
 use Rattle.exact.proofs.LawsBasic.{byte-exact, pure-exact}
 use Rattle.exact.proofs.LawsSequence.{bind-exact, map-exact}
@@ -17,8 +17,7 @@ use Rattle.exact.proofs.LawsChoice.{choose-exact}
 use Rattle.exact.proofs.LawsRepeat.{times-exact, counted-exact, many-length}
 use Rattle.exact.proofs.LawsFixed.{fixed-exact}
 use Rattle.enums.specs.Container.{P}
-use Rattle.encoding.specs.Varint.{Spells}
-use Rattle.reading.specs.Numbers.{varintAt, countedAt}
+use Rattle.reading.specs.Numbers.{countedAt}
 use Rattle.reading.proofs.LawsNumbers.{varint-exact, padding-exact, counted-at-exact}
 use Rattle.format.specs.Items.{Number, Byte, byte-of, Field, there, absent, Array, Indices, Padded, padded, truth, Truth, truth-of}
 use Rattle.format.specs.DecodeTables.{fieldAt, indicesAt, paddedAt}

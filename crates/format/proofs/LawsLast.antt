@@ -1,12 +1,11 @@
 -- The last section with an id, found by the reader, is the one that counts. Assumes nothing.
-use mathlib.Core.Path.{_≡_, refl, sym, ap, _∙_, subst}
+use mathlib.Core.Path.{_≡_, refl, ap}
 use Prim.Native.Nat.{ℕ, _+_}
-use native.Mathlib.Omega.{arith}
 use native.Mathlib.Decide.{ℕ-discrete}
 use mathlib.Core.Option.{Option, none, some}
 use mathlib.Core.List.{List, [], _∷_, _++_}
 use lib.ListN.{length}
-use Rattle.exact.specs.Got.{Got, got}
+use Rattle.exact.specs.Got.{got}
 use Rattle.exact.specs.Exact.{Parser, Lang, Ends}
 use Rattle.exact.specs.Choice.{choose}
 use Rattle.exact.specs.Entries.{raised}

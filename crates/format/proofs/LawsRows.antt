@@ -1,15 +1,15 @@
 -- Global and Func are read exactly. Assumes nothing.
-use mathlib.Core.Path.{_≡_, refl, sym, ap, _∙_, subst}
+use mathlib.Core.Path.{_≡_, refl}
 use Prim.Native.Nat.{ℕ, _+_, _/_, _%_}
 use native.Mathlib.Nat.{add-zero}
 use native.Mathlib.Decide.{ℕ-discrete}
 use mathlib.Core.Bool.{true, Bool-discrete}
-use mathlib.Core.List.{List, [], _∷_, _++_}
+use mathlib.Core.List.{List, _∷_, _++_}
 use lib.ListN.{length}
 use Rattle.exact.specs.Exact.{Lang, Exact, Ends}
 use Rattle.exact.specs.Basic.{One, one, Never}
 use Rattle.exact.specs.Sequence.{Then, then, Of, of}
-use Rattle.exact.specs.Choice.{If, so, else}
+use Rattle.exact.specs.Choice.{If, so}
 use Rattle.exact.specs.Fixed.{Raw, raw-of}
 use Rattle.exact.specs.Upto.{At, at}
 use Rattle.exact.proofs.LawsExact.{same-exact}
@@ -21,7 +21,6 @@ use Rattle.exact.proofs.LawsFixed.{raw-exact}
 use Rattle.exact.proofs.LawsRefuse.{refuse-exact}
 use Rattle.exact.proofs.LawsUpto.{upto-ends, place-exact, map-ends}
 use Rattle.enums.specs.Container.{hintsFlag}
-use Rattle.enums.specs.Refusals as refusals
 use Rattle.enums.specs.declared.VersionClass.{VersionClass}
 use Rattle.encoding.specs.Varint.{Spells}
 use Rattle.reading.proofs.LawsNumbers.{varint-exact}
@@ -75,10 +74,10 @@ to-function o i bs v (then n (then s (then at (then one (then l (so h (then m (t
 
 of-function : (o i : ℕ) (bs : List ℕ) (v : Located Function) → FunctionRow o i bs v → FunctionChain o i bs v
 of-function o i bs v (function {nameBytes = a} {signatureBytes = b} {locationBytes = d} {lengthBytes = e} {body = y} {name = u} {signature = w}
-  {flags = f} {location = x} n s h l m) =
+    {flags = f} {location = x} n s h l m) =
     let k : ℕ = i + length a + length b + 0 + 1 + length d + length e in
     let t : FunctionChain o i (a ++ (b ++ (f ∷ (d ++ (e ++ y))))) (functionOf o k u w f x y) =
-          then n (then s (then at (then one (then l (so h (then m (then at (of (raw-of refl))))))))) in
+    then n (then s (then at (then one (then l (so h (then m (then at (of (raw-of refl))))))))) in
     rw add-zero at t
 
 body-exact : (o n s f l : ℕ) → Exact (bodyAt o n s f l) (Body o n s f l)
@@ -91,7 +90,7 @@ function-exact o =
     same-exact
     (bind-exact varint-exact (λ n. bind-exact varint-exact (λ s. bind-exact place-exact (λ k. bind-exact byte-exact
     (λ f. bind-exact varint-exact
-    (λ l. choose-exact (ℕ-discrete (f / hintsFlag % 2) 0) (body-exact o n s f l) (refuse-exact refusals.hints k)))))))
+    (λ l. choose-exact (ℕ-discrete (f / hintsFlag % 2) 0) (body-exact o n s f l) (refuse-exact _ k)))))))
     (λ i bs v. (to-function o i bs v, of-function o i bs v))
 
 pub functions-ends : (o : ℕ) → Ends (functionsAt o) (Functions o)

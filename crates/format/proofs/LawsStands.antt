@@ -3,21 +3,21 @@ use mathlib.Core.Path.{_≡_, refl, sym, ap, _∙_, subst}
 use Prim.Native.Nat.{ℕ, zero, suc, _+_, _≤_, _<_}
 use native.Mathlib.Nat.{add-zero, not-suc-le-zero, le-of-suc-le-suc}
 use native.Mathlib.Omega.{arith}
-use mathlib.Core.List.{List, [], _∷_, _++_, append-assoc, append-nil}
+use mathlib.Core.List.{List, [], _∷_, _++_, map, append-assoc, append-nil}
 use lib.ListN.{length, take, drop, getD, length-append}
 use lib.Seq.{drop-append-seam, take-append-seam}
-use Rattle.exact.specs.Exact.{Lang}
 use Rattle.exact.specs.Repeat.{Many, nil, cons}
 use Rattle.exact.specs.Tiling.{join, sums}
 use Rattle.exact.specs.Upto.{Whole, whole-of}
-use Rattle.exact.specs.Until.{Until, end, item}
+use Rattle.exact.specs.Until.{end, item}
 use Rattle.exact.specs.Entries.{Rows, Each, none-left, entry-of, Entries}
 use Rattle.enums.specs.Container.{P}
 use Rattle.format.specs.Tables.{Function}
 use Rattle.format.specs.Items.{Number}
-use Rattle.format.specs.Sections.{Section, SectionAt, Item, marker, section, Sections}
+use Rattle.format.specs.Sections.{Section, SectionAt, section, Sections}
 use Rattle.format.specs.Functions.{Located, apart, FunctionRow, function}
 use Rattle.format.specs.Stands.{Stands}
+use Rattle.format.specs.Views.{bodyOf}
 
 -- The file's bytes from the place on are the run's.
 pub stands-bytes : (file : List ℕ) (k : ℕ) (run : List ℕ) → Stands 0 file k run →
@@ -62,7 +62,7 @@ pub stands-in : (n : ℕ) (l : List ℕ) (m : ℕ) (part : List ℕ) (k : ℕ) (
     Stands n l k run
 stands-in n l m part k run s t =
     let u : Stands (n + length (s .before)) part k run =
-          record { before = t .before; after = t .after; whole = t .whole; place = t .place ∙ ap (λ z. z + length (t .before)) (s .place) } in
+    record { before = t .before; after = t .after; whole = t .whole; place = t .place ∙ ap (λ z. z + length (t .before)) (s .place) } in
     rw (s .whole)
     (stands-behind n (s .before) (part ++ s .after) k run (stands-before (n + length (s .before)) part (s .after) k run u))
 
@@ -127,17 +127,12 @@ body-stands o i bs v (function {nameBytes = a} {signatureBytes = b} {locationByt
     (stands-behind (o + i + length a + length b + 1) d _ _ _
     (stands-behind (o + i + length a + length b + 1 + length d) e _ _ _ t)))))
 
--- The body of a function.
-abbrev pub bodyOf : Function → List ℕ
-bodyOf f = f .body
-
 -- So does each of a list of functions.
-pub bodies-stand : (o n i : ℕ) (bs : List ℕ) (vs : List (Located Function)) → Many (FunctionRow o) n i bs vs → (k : ℕ) (d : Function) →
-    k < length vs → Stands (o + i) bs (getD (apart vs .at) k 0) (bodyOf (getD (apart vs .values) k d))
-bodies-stand o n i bs vs nil k d h = absurd (not-suc-le-zero h)
-bodies-stand o n i bs vs (cons {bs = b} {cs = c} {v = v} r t) zero d h =
-    stands-before (o + i) b c _ _ (body-stands o i b v r)
-bodies-stand o n i bs vs (cons {n = m} {bs = b} {cs = c} {vs = ws} r t) (suc k) d h =
+pub bodies-stand : (o n i : ℕ) (bs : List ℕ) (vs : List (Located Function)) → Many (FunctionRow o) n i bs vs → (k : ℕ) →
+    k < length vs → Stands (o + i) bs (getD (apart vs .at) k 0) (getD (map bodyOf (apart vs .values)) k [])
+bodies-stand o n i bs vs nil k h = absurd (not-suc-le-zero h)
+bodies-stand o n i bs vs (cons {bs = b} {cs = c} {v = v} r t) zero h = stands-before (o + i) b c _ _ (body-stands o i b v r)
+bodies-stand o n i bs vs (cons {n = m} {bs = b} {cs = c} {vs = ws} r t) (suc k) h =
     let q : o + (i + length b) ≡ o + i + length b = omega arith in
     stands-behind (o + i) b c _ _
-    (stands-as (o + (i + length b)) (o + i + length b) c _ _ q (bodies-stand o m (i + length b) c ws t k d (le-of-suc-le-suc h)))
+    (stands-as (o + (i + length b)) (o + i + length b) c _ _ q (bodies-stand o m (i + length b) c ws t k (le-of-suc-le-suc h)))

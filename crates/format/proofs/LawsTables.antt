@@ -1,17 +1,17 @@
 -- Offset tables, and with them String, Constant and Type, and Producer, are read exactly. Assumes nothing.
-use mathlib.Core.Path.{_≡_, refl, sym, subst}
+use mathlib.Core.Path.{_≡_, refl}
 use Prim.Native.Nat.{ℕ, _+_, _≤_, _<_}
 use native.Mathlib.Omega.{arith}
 use native.Mathlib.Decide.{decLt, ℕ-discrete}
 use mathlib.Core.Option.{Option, some}
 use mathlib.Core.List.{List, _++_}
 use lib.ListN.{length}
-use Rattle.exact.specs.Exact.{Parser, Lang, Exact, Ends}
+use Rattle.exact.specs.Exact.{Parser, Lang, Ends}
 use Rattle.exact.specs.Basic.{Is, is}
 use Rattle.exact.specs.Sequence.{Then, then, Of, of}
 use Rattle.exact.specs.Choice.{If, so, else, Such, such-of}
 use Rattle.exact.specs.Upto.{Upto, upto-of}
-use Rattle.exact.specs.Entries.{Rows, Entries}
+use Rattle.exact.specs.Entries.{Rows}
 use Rattle.exact.proofs.LawsExact.{same-ends}
 use Rattle.exact.proofs.LawsBasic.{pure-exact}
 use Rattle.exact.proofs.LawsSequence.{bind-ends, map-exact}
@@ -20,7 +20,6 @@ use Rattle.exact.proofs.LawsPadding.{blamed-exact}
 use Rattle.exact.proofs.LawsUpto.{upto-ends, whole-ends, choose-ends, map-ends}
 use Rattle.exact.proofs.LawsEntries.{Behind, behind-count, to-entries, of-entries, entries-ends}
 use Rattle.enums.specs.Container.{P}
-use Rattle.enums.specs.Refusals as refusals
 use Rattle.enums.specs.declared.VersionClass.{VersionClass}
 use Rattle.reading.proofs.LawsNumbers.{varint-exact}
 use Rattle.format.specs.Items.{Number}
@@ -80,5 +79,5 @@ of-producer n i bs v (producer left s h) = upto-of left (of (such-of h s))
 pub producer-ends : (n : ℕ) → Ends (producerAt n) (Producer n)
 unfolding producerAt
 producer-ends n =
-    same-ends (upto-ends (map-exact some (blamed-exact (such-exact refusals.noProducer (λ k. decLt k n) varint-exact))))
+    same-ends (upto-ends (map-exact some (blamed-exact (such-exact _ (λ k. decLt k n) varint-exact))))
     (λ i bs v. (to-producer n i bs v, of-producer n i bs v))

@@ -1,13 +1,13 @@
 -- Type entries are read exactly, kind by kind. Assumes nothing.
 use mathlib.Core.Path.{_≡_, refl, sym, ap, _∙_}
-use Prim.Native.Nat.{ℕ, _+_, _%_}
+use Prim.Native.Nat.{ℕ, _%_}
 use native.Mathlib.Omega.{arith}
 use native.Mathlib.Decide.{ℕ-discrete}
-use mathlib.Core.Bool.{Bool, true, false, Bool-discrete, true≢false, false≢true}
-use mathlib.Core.List.{List, [], _∷_, _++_, append-assoc}
-use Rattle.exact.specs.Exact.{Parser, Lang, Exact, Ends}
-use Rattle.exact.specs.Basic.{Is, is, Never}
-use Rattle.exact.specs.Sequence.{Then, then, Of, of}
+use mathlib.Core.Bool.{Bool, true, false, Bool-discrete, false≢true}
+use mathlib.Core.List.{List, _++_, append-assoc}
+use Rattle.exact.specs.Exact.{Lang, Exact, Ends}
+use Rattle.exact.specs.Basic.{byte, Is, is}
+use Rattle.exact.specs.Sequence.{map, Then, then, Of, of}
 use Rattle.exact.specs.Choice.{If, so, else}
 use Rattle.exact.specs.Kinds.{OneOf, AllExact}
 use Rattle.exact.specs.Upto.{Upto, upto-of}
@@ -18,13 +18,13 @@ use Rattle.exact.proofs.LawsChoice.{choose-exact}
 use Rattle.exact.proofs.LawsPadding.{here-exact}
 use Rattle.exact.proofs.LawsRefuse.{pick-at-exact}
 use Rattle.exact.proofs.LawsUpto.{upto-ends}
-use Rattle.enums.specs.Refusals as refusals
 use Rattle.enums.specs.declared.VersionClass.{VersionClass}
 use Rattle.encoding.specs.Varint.{Spells}
 use Rattle.reading.specs.Numbers.{varintAt}
 use Rattle.reading.proofs.LawsNumbers.{varint-exact}
 use Rattle.format.specs.Tables.{TypeRow, plain, pointer, tile, tensorView, partitionView, gatherScatterView, stridedView, function}
-use Rattle.format.specs.Items.{Number, Byte, Field, Array, Indices, Truth, Bit0, since13·3, since13·4}
+use Rattle.format.specs.DecodeTables.{fieldAt}
+use Rattle.format.specs.Items.{truth, Number, Byte, Field, Array, Indices, Truth, Bit0, since13·3, since13·4}
 use Rattle.format.specs.Types as T
 use Rattle.format.specs.DecodeTypes as D
 use Rattle.format.proofs.LawsItems.{array-exact, indices-exact, one-byte-exact, field-exact, truth-exact}
@@ -47,6 +47,15 @@ byte-if-exact : (flags : ℕ) → Exact (D.byteIf flags) (ByteIf flags)
 unfolding D.byteIf
 byte-if-exact flags = field-exact (ℕ-discrete (flags % 2) 1) one-byte-exact
 
+presence-exact : Exact (map truth byte) (λ i. Truth Byte)
+presence-exact = truth-exact one-byte-exact
+
+padding-exact : (presence : ℕ) → Exact (fieldAt (ℕ-discrete presence 1) varintAt) (λ i. Field (presence ≡ 1) Spells)
+padding-exact presence = field-exact (ℕ-discrete presence 1) varint-exact
+
+-- What the kinds are made of.
+ruleset exacts = (bind-exact, map-exact, varint-exact, array-exact, indices-exact, flags-exact, byte-if-exact, presence-exact, padding-exact)
+
 abbrev PointerChain : VersionClass → Lang TypeRow
 PointerChain c = Then (Flags c) (λ f. Then Number (λ e. Of (λ a. pointer f e a) (ByteIf f)))
 
@@ -58,10 +67,7 @@ of-pointer c i bs w (T.Pointer.fields f e a) = then f (then e (of a))
 
 pointer-exact : (c : VersionClass) → Exact (D.pointerAt c) (λ i. T.Pointer c)
 unfolding D.pointerAt
-pointer-exact c =
-    same-exact
-    (bind-exact (flags-exact c) (λ f. bind-exact varint-exact (λ e. map-exact (λ a. pointer f e a) (byte-if-exact f))))
-    (λ i bs v. (to-pointer c i bs v, of-pointer c i bs v))
+pointer-exact c = let x : Exact (D.pointerAt c) (PointerChain c) = search exacts depth 24 in same-exact x (λ i bs v. (to-pointer c i bs v, of-pointer c i bs v))
 
 abbrev TileChain : Lang TypeRow
 TileChain = Then Number (λ e. Of (λ d. tile e d) (Numbers 8))
@@ -74,13 +80,15 @@ of-tile i bs w (T.Tile.fields e d) = then e (of d)
 
 tile-exact : Exact D.tileAt (λ i. T.Tile)
 unfolding D.tileAt
-tile-exact =
-    same-exact
-    (bind-exact varint-exact (λ e. map-exact (λ d. tile e d) (array-exact 8)))
-    (λ i bs v. (to-tile i bs v, of-tile i bs v))
+tile-exact = let x : Exact D.tileAt TileChain = search exacts depth 24 in same-exact x (λ i bs v. (to-tile i bs v, of-tile i bs v))
 
 abbrev TensorViewChain : VersionClass → Lang TypeRow
-TensorViewChain c = Then (Flags c) (λ f. Then Number (λ e. Then (Numbers 8) (λ s. Then (Numbers 8) (λ t. Of (λ a. tensorView f e s t a) (ByteIf f)))))
+TensorViewChain c =
+    Then (Flags c)
+    (λ f. Then Number
+    (λ e. Then (Numbers 8)
+    (λ s. Then (Numbers 8)
+    (λ t. Of (λ a. tensorView f e s t a) (ByteIf f)))))
 
 to-tensor-view : (c : VersionClass) (i : ℕ) (bs : List ℕ) (v : TypeRow) → TensorViewChain c i bs v → T.TensorView c bs v
 to-tensor-view c i bs w (then f (then e (then s (then t (of a))))) = T.TensorView.fields f e s t a
@@ -90,13 +98,15 @@ of-tensor-view c i bs w (T.TensorView.fields f e s t a) = then f (then e (then s
 
 tensor-view-exact : (c : VersionClass) → Exact (D.tensorViewAt c) (λ i. T.TensorView c)
 unfolding D.tensorViewAt
-tensor-view-exact c =
-    same-exact
-    (bind-exact (flags-exact c) (λ f. bind-exact varint-exact (λ e. bind-exact (array-exact 8) (λ s. bind-exact (array-exact 8) (λ t. map-exact (λ a. tensorView f e s t a) (byte-if-exact f))))))
-    (λ i bs v. (to-tensor-view c i bs v, of-tensor-view c i bs v))
+tensor-view-exact c = let x : Exact (D.tensorViewAt c) (TensorViewChain c) = search exacts depth 24 in same-exact x (λ i bs v. (to-tensor-view c i bs v, of-tensor-view c i bs v))
 
 abbrev PartitionViewChain : Lang TypeRow
-PartitionViewChain = Then Number (λ f. Then (Numbers 4) (λ s. Then Number (λ v. Then (Numbers 4) (λ m. Of (λ a. partitionView f s v m a) (ByteIf f)))))
+PartitionViewChain =
+    Then Number
+    (λ f. Then (Numbers 4)
+    (λ s. Then Number
+    (λ v. Then (Numbers 4)
+    (λ m. Of (λ a. partitionView f s v m a) (ByteIf f)))))
 
 to-partition-view : (i : ℕ) (bs : List ℕ) (v : TypeRow) → PartitionViewChain i bs v → T.PartitionView bs v
 to-partition-view i bs w (then f (then s (then v (then m (of a))))) = T.PartitionView.fields f s v m a
@@ -106,13 +116,15 @@ of-partition-view i bs w (T.PartitionView.fields f s v m a) = then f (then s (th
 
 partition-view-exact : Exact D.partitionViewAt (λ i. T.PartitionView)
 unfolding D.partitionViewAt
-partition-view-exact =
-    same-exact
-    (bind-exact varint-exact (λ f. bind-exact (array-exact 4) (λ s. bind-exact varint-exact (λ v. bind-exact (array-exact 4) (λ m. map-exact (λ a. partitionView f s v m a) (byte-if-exact f))))))
-    (λ i bs v. (to-partition-view i bs v, of-partition-view i bs v))
+partition-view-exact = let x : Exact D.partitionViewAt PartitionViewChain = search exacts depth 24 in same-exact x (λ i bs v. (to-partition-view i bs v, of-partition-view i bs v))
 
 abbrev OldPartitionViewChain : Lang TypeRow
-OldPartitionViewChain = Then (Numbers 4) (λ s. Then Number (λ v. Then (Numbers 4) (λ m. Then (λ i. Truth Byte) (λ f. Of (λ a. partitionView f s v m a) (λ i. Field (f ≡ 1) Spells)))))
+OldPartitionViewChain =
+    Then (Numbers 4)
+    (λ s. Then Number
+    (λ v. Then (Numbers 4)
+    (λ m. Then (λ i. Truth Byte)
+    (λ f. Of (λ a. partitionView f s v m a) (λ i. Field (f ≡ 1) Spells)))))
 
 to-old-partition-view : (i : ℕ) (bs : List ℕ) (v : TypeRow) → OldPartitionViewChain i bs v → T.OldPartitionView bs v
 to-old-partition-view i bs w (then s (then v (then m (then f (of a))))) = T.OldPartitionView.fields s v m f a
@@ -122,13 +134,15 @@ of-old-partition-view i bs w (T.OldPartitionView.fields s v m f a) = then s (the
 
 old-partition-view-exact : Exact D.oldPartitionViewAt (λ i. T.OldPartitionView)
 unfolding D.oldPartitionViewAt
-old-partition-view-exact =
-    same-exact
-    (bind-exact (array-exact 4) (λ s. bind-exact varint-exact (λ v. bind-exact (array-exact 4) (λ m. bind-exact (truth-exact one-byte-exact) (λ f. map-exact (λ a. partitionView f s v m a) (field-exact (ℕ-discrete f 1) varint-exact))))))
-    (λ i bs v. (to-old-partition-view i bs v, of-old-partition-view i bs v))
+old-partition-view-exact = let x : Exact D.oldPartitionViewAt OldPartitionViewChain = search exacts depth 24 in same-exact x (λ i bs v. (to-old-partition-view i bs v, of-old-partition-view i bs v))
 
 abbrev GatherScatterViewChain : Lang TypeRow
-GatherScatterViewChain = Then Number (λ f. Then (Numbers 4) (λ s. Then Number (λ v. Then Number (λ d. Of (λ a. gatherScatterView f s v d a) (ByteIf f)))))
+GatherScatterViewChain =
+    Then Number
+    (λ f. Then (Numbers 4)
+    (λ s. Then Number
+    (λ v. Then Number
+    (λ d. Of (λ a. gatherScatterView f s v d a) (ByteIf f)))))
 
 to-gather-scatter-view : (i : ℕ) (bs : List ℕ) (v : TypeRow) → GatherScatterViewChain i bs v → T.GatherScatterView bs v
 to-gather-scatter-view i bs w (then f (then s (then v (then d (of a))))) = T.GatherScatterView.fields f s v d a
@@ -138,13 +152,16 @@ of-gather-scatter-view i bs w (T.GatherScatterView.fields f s v d a) = then f (t
 
 gather-scatter-view-exact : Exact D.gatherScatterViewAt (λ i. T.GatherScatterView)
 unfolding D.gatherScatterViewAt
-gather-scatter-view-exact =
-    same-exact
-    (bind-exact varint-exact (λ f. bind-exact (array-exact 4) (λ s. bind-exact varint-exact (λ v. bind-exact varint-exact (λ d. map-exact (λ a. gatherScatterView f s v d a) (byte-if-exact f))))))
-    (λ i bs v. (to-gather-scatter-view i bs v, of-gather-scatter-view i bs v))
+gather-scatter-view-exact = let x : Exact D.gatherScatterViewAt GatherScatterViewChain = search exacts depth 24 in same-exact x (λ i bs v. (to-gather-scatter-view i bs v, of-gather-scatter-view i bs v))
 
 abbrev StridedViewChain : Lang TypeRow
-StridedViewChain = Then Number (λ f. Then (Numbers 4) (λ s. Then (Numbers 4) (λ t. Then Number (λ v. Then (Numbers 4) (λ m. Of (λ a. stridedView f s t v m a) (ByteIf f))))))
+StridedViewChain =
+    Then Number
+    (λ f. Then (Numbers 4)
+    (λ s. Then (Numbers 4)
+    (λ t. Then Number
+    (λ v. Then (Numbers 4)
+    (λ m. Of (λ a. stridedView f s t v m a) (ByteIf f))))))
 
 to-strided-view : (i : ℕ) (bs : List ℕ) (v : TypeRow) → StridedViewChain i bs v → T.StridedView bs v
 to-strided-view i bs w (then f (then s (then t (then v (then m (of a)))))) = T.StridedView.fields f s t v m a
@@ -154,10 +171,7 @@ of-strided-view i bs w (T.StridedView.fields f s t v m a) = then f (then s (then
 
 strided-view-exact : Exact D.stridedViewAt (λ i. T.StridedView)
 unfolding D.stridedViewAt
-strided-view-exact =
-    same-exact
-    (bind-exact varint-exact (λ f. bind-exact (array-exact 4) (λ s. bind-exact (array-exact 4) (λ t. bind-exact varint-exact (λ v. bind-exact (array-exact 4) (λ m. map-exact (λ a. stridedView f s t v m a) (byte-if-exact f)))))))
-    (λ i bs v. (to-strided-view i bs v, of-strided-view i bs v))
+strided-view-exact = let x : Exact D.stridedViewAt StridedViewChain = search exacts depth 24 in same-exact x (λ i bs v. (to-strided-view i bs v, of-strided-view i bs v))
 
 abbrev FunctionTypeChain : Lang TypeRow
 FunctionTypeChain = Then (λ i. Indices) (λ n. Of (λ r. function n r) (λ i. Indices))
@@ -170,10 +184,7 @@ of-function-type i bs w (T.FunctionType.fields n r) = then n (of r)
 
 function-type-exact : Exact D.functionTypeAt (λ i. T.FunctionType)
 unfolding D.functionTypeAt
-function-type-exact =
-    same-exact
-    (bind-exact indices-exact (λ n. map-exact (λ r. function n r) indices-exact))
-    (λ i bs v. (to-function-type i bs v, of-function-type i bs v))
+function-type-exact = let x : Exact D.functionTypeAt FunctionTypeChain = search exacts depth 24 in same-exact x (λ i bs v. (to-function-type i bs v, of-function-type i bs v))
 
 not-true : (b : Bool) → ¬ (b ≡ true) → b ≡ false
 not-true true n = absurd (n refl)
@@ -189,10 +200,10 @@ all-exact c = (
       tensor-view-exact c,
       (
         choose-exact (Bool-discrete (since13·3 c) true) partition-view-exact old-partition-view-exact,
-        (function-type-exact, (gather-scatter-view-exact, (strided-view-exact, tt)))
-      )
-    )
-  )
+        (function-type-exact, (gather-scatter-view-exact, (strided-view-exact, tt))),
+      ),
+    ),
+  ),
 )
 
 -- The decision over the tag: first the plain ones, then the kinds with fields.
@@ -239,7 +250,7 @@ unfolding D.fieldsAt
 fields-exact c k t =
     same-exact
     (choose-exact (Bool-discrete (T.among t T.plainTags) true) (pure-exact (plain t))
-    (pick-at-exact refusals.typeTag k (D.kinds c) (all-exact c) t))
+    (pick-at-exact _ k (D.kinds c) (all-exact c) t))
     (λ i bs v. (to-fields c t i bs v, of-fields c t i bs v))
 
 abbrev Tagged : VersionClass → Lang TypeRow

@@ -20,3 +20,13 @@ pub mod RowPlaced
 pub mod ExampleFiles
 pub mod ExampleRefusals
 pub mod Examples
+pub mod Viewed
+pub mod LawsWalk
+pub mod LawsImageItems
+pub mod LawsImageTypes
+pub mod LawsImageRows
+pub mod LawsImageSections
+pub mod LawsImageSizes
+pub mod LawsWords
+pub mod LawsImageParts
+pub mod Images

@@ -42,9 +42,15 @@ use Rattle.format.specs.Image.{
   partBytes,
   partsFrom,
   hasRows,
-  written,
-  producerParts,
-  typeEntries,
+  stringPart,
+  isNamed,
+  producerBytes,
+  producerPart,
+  typePart,
+  constantPart,
+  globalPart,
+  functionPart,
+  debugPart,
   partsOf,
   headerBytes,
   image,
@@ -81,7 +87,7 @@ whole-pool = refl
 
 pub whole-image : image whole ≡
     magic ++ (0x0D ∷ 0x01 ∷ 0x00 ∷ 0x00 ∷ 0x81 ∷ 0x0F ∷ 0x04 ∷ P ∷ 0x02 ∷ P ∷ P ∷ P ∷ 0x00 ∷ 0x00 ∷ 0x00 ∷ 0x00 ∷ 0x01 ∷ 0x00 ∷ 0x00 ∷ 0x00 ∷ 0x61 ∷ 0x62 ∷ 0x63 ∷ 0x00 ∷ [])
-unfolding image headerBytes partsOf partsFrom partBytes typeEntries producerParts written hasRows firstByte alignmentBytes offsetTable paddedNumbers shortest gap bytesOf choose decLt
+unfolding image headerBytes partsOf stringPart isNamed producerBytes producerPart typePart constantPart globalPart functionPart debugPart partsFrom partBytes hasRows firstByte alignmentBytes offsetTable paddedNumbers shortest gap bytesOf choose decLt
 whole-image = refl
 
 pub whole-judged : tablesOf wholeSheet wholePool ≡ some whole

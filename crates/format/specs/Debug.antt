@@ -1,15 +1,12 @@
--- Debug (document 01, "The container"): function count, padding to 4, u32 list starts counted in ids; id count, padding
--- to 8, u64 ids; attribute count, padding to 4, u32 starts counted in bytes; data.
-use mathlib.Core.Path.{_≡_}
+-- Debug (document 01, "The container"): function count, padding to 4, u32 list starts counted in ids; id count,
+-- padding to 8, u64 ids; attribute count, padding to 4, u32 starts counted in bytes; data.
 use Prim.Native.Nat.{ℕ, _+_, _<_}
 use mathlib.Core.List.{List, [], _∷_, _++_}
 use lib.ListN.{length, getD}
-use Rattle.exact.specs.Exact.{Lang}
 use Rattle.exact.specs.Repeat.{Many}
 use Rattle.exact.specs.Tiling.{Tiled}
 use Rattle.exact.specs.Entries.{Rows, Entries}
 use Rattle.enums.specs.Container.{P}
-use Rattle.encoding.specs.Varint.{Spells}
 use Rattle.format.specs.Tables.{Attribute}
 use Rattle.format.specs.Items.{Number, Padded}
 
@@ -44,10 +41,11 @@ pub record DebugTables : Type 0 where
 abbrev pub noDebug : DebugTables
 noDebug = record { attributes = []; lists = [] }
 
--- List starts, ids, and the table of attributes. The ids are a gap and then the lists, which begin at the starts, counted
--- in ids; the last ends at the id count, and a list may be empty.
+-- List starts, ids, and the table of attributes. The ids are a gap and then the lists, which begin at the starts,
+-- counted in ids; the last ends at the id count, and a list may be empty.
 pub data Debug : ℕ → List ℕ → DebugTables → Type 0 where
-  debug : {i : ℕ} {startBytes idBytes attributeBytes starts ids : List ℕ} {lists : List (List ℕ)} {attributes : Rows Attribute} →
+  debug : {i : ℕ} {startBytes idBytes attributeBytes starts ids : List ℕ} {lists : List (List ℕ)}
+      {attributes : Rows Attribute} →
       Padded 4 4 i startBytes starts →
       Padded 8 8 (i + length startBytes) idBytes ids →
       Entries Number P 4 4 0 AttributeEntry (i + length startBytes + length idBytes) attributeBytes attributes →

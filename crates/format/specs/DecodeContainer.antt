@@ -1,5 +1,5 @@
 -- The reader of header and sections, in reading order (document 01, "The container").
-use Prim.Native.Nat.{ℕ, _%_, _<_}
+use Prim.Native.Nat.{ℕ, _%_}
 use native.Mathlib.Decide.{decLt, ℕ-discrete}
 use mathlib.Core.Bool.{Bool, true, false, _&&_, Bool-discrete}
 use mathlib.Core.Option.{Option, none, some}
@@ -80,7 +80,8 @@ unfoldable pub placesOf : List Section → List ℕ → List Place
 placesOf ss [] = []
 placesOf ss (id ∷ ids) = placeOf (lastWith id ss) ∷ placesOf ss ids
 
--- What p, told the payload's file offset, reads of a section's payload, with places in the file; e where it is absent.
+-- What p, told the payload's file offset, reads of a section's payload, with places in the file; e where it is
+-- absent.
 unfoldable pub inSection : {A : Type 0} → Option Section → (ℕ → Parser A) → A → Got A
 inSection none p e = got e 0
 inSection (some s) p e = raised (s .start) (p (s .start) (s .payload) 0)

@@ -1,6 +1,6 @@
--- The reader of Debug, in reading order (document 01, "The container"): all starts and ids, then the attributes one by one,
--- bounds and then fields, and then the lists.
-use Prim.Native.Nat.{ℕ, _<_}
+-- The reader of Debug, in reading order (document 01, "The container"): all starts and ids, then the attributes one
+-- by one, bounds and then fields, and then the lists.
+use Prim.Native.Nat.{ℕ}
 use native.Mathlib.Decide.{decLt}
 use mathlib.Core.Option.{Option, none, some}
 use mathlib.Core.List.{List}

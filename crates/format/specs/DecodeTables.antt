@@ -1,5 +1,5 @@
 -- The readers of items, offset tables and Producer, in reading order (document 01, "The container").
-use Prim.Native.Nat.{ℕ, _<_}
+use Prim.Native.Nat.{ℕ}
 use native.Mathlib.Decide.{decLt, ℕ-discrete}
 use mathlib.Core.Option.{Option, some}
 use mathlib.Core.List.{List}

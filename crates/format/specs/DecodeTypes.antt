@@ -57,7 +57,8 @@ oldPartitionViewAt =
     (λ shape. bind varintAt
     (λ view. bind (countedAt 4)
     (λ m. bind (map truth byte)
-    (λ presence. map (λ padding. partitionView presence shape view m padding) (fieldAt (ℕ-discrete presence 1) varintAt)))))
+    (λ presence. map (λ padding. partitionView presence shape view m padding)
+    (fieldAt (ℕ-discrete presence 1) varintAt)))))
 
 unfoldable pub gatherScatterViewAt : Parser TypeRow
 gatherScatterViewAt =
@@ -97,7 +98,8 @@ kinds c =
 
 -- What stands behind the tag t; a tag that is not known is refused at its first byte, k.
 unfoldable pub fieldsAt : VersionClass → ℕ → ℕ → Parser TypeRow
-fieldsAt c k t = choose (Bool-discrete (among t plainTags) true) (pure (plain t)) (pickAt refusals.typeTag k (kinds c) t)
+fieldsAt c k t =
+    choose (Bool-discrete (among t plainTags) true) (pure (plain t)) (pickAt refusals.typeTag k (kinds c) t)
 
 -- A type entry.
 unfoldable pub typeEntryAt : VersionClass → Parser TypeRow

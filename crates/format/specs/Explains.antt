@@ -1,10 +1,10 @@
--- What a file's bytes stand for (document 01, "The container"), item beside item, and where its rows stand.
+-- What a file's bytes stand for (document 01, "The container"), item beside item, and where its rows stand. The parts are
+-- in Header, Sections, Strings (String, Constant, Producer), Types, Globals, Functions, Debug and Items; none of them reads.
 use mathlib.Core.Path.{_≡_}
 use Prim.Native.Nat.{ℕ}
-use mathlib.Core.Option.{Option, none}
+use mathlib.Core.Option.{none}
 use mathlib.Core.List.{List, [], _++_}
 use lib.ListN.{length}
-use Rattle.exact.specs.Entries.{Rows}
 use Rattle.enums.specs.Container.{stringId, funcId, debugId, constantId, typeId, globalId, producerId, sectionIds}
 use Rattle.enums.specs.Version.{classOf}
 use Rattle.enums.specs.declared.VersionClass.{VersionClass}
@@ -46,12 +46,15 @@ class v = classOf (v .major) (v .minor)
 pub record Layout (file : List ℕ) (x : Placed) : Type 0 where
   pub sections : List Section
   pub container : Container file (x .tables .version) sections
-  pub strings : Payload stringId sections Strings noRows (record { at = x .places .strings; values = x .tables .strings })
+  pub strings : Payload stringId sections Strings noRows
+      (record { at = x .places .strings; values = x .tables .strings })
   pub producer : Payload producerId sections (λ o. Producer (length (x .tables .strings))) none (x .tables .producer)
   pub types : Payload typeId sections (Types (class (x .tables .version))) [] (x .tables .types)
-  pub constants : Payload constantId sections Constants noRows (record { at = x .places .constants; values = x .tables .constants })
+  pub constants : Payload constantId sections Constants noRows
+      (record { at = x .places .constants; values = x .tables .constants })
   pub globals : Payload globalId sections (Globals (class (x .tables .version))) [] (x .tables .globals)
-  pub functions : Payload funcId sections Functions noRows (record { at = x .places .bodies; values = x .tables .functions })
+  pub functions : Payload funcId sections Functions noRows
+      (record { at = x .places .bodies; values = x .tables .functions })
   pub debug : Payload debugId sections (λ o. Debug) noDebug
       (record { attributes = x .tables .attributes; lists = x .tables .lists })
   pub placed : PlacesOf sections sectionIds (x .places .sections)

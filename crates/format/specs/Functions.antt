@@ -1,4 +1,5 @@
--- Func (document 01, "The container": count; name, signature, a flags byte, location varint, varint body length, body).
+-- Func (document 01, "The container": count; name, signature, a flags byte, location varint, varint body length,
+-- body).
 use mathlib.Core.Path.{_≡_}
 use Prim.Native.Nat.{ℕ, _+_, _/_, _%_}
 use mathlib.Core.List.{List, [], _∷_, _++_}
@@ -29,7 +30,8 @@ NoHints flags = flags / hintsFlag % 2 ≡ 0
 
 -- One function, in a payload that begins at file offset o, with the file offset of its body.
 pub data FunctionRow (o : ℕ) : ℕ → List ℕ → Located Function → Type 0 where
-  function : {i : ℕ} {nameBytes signatureBytes locationBytes lengthBytes body : List ℕ} {name signature flags location : ℕ} →
+  function : {i : ℕ} {nameBytes signatureBytes locationBytes lengthBytes body : List ℕ}
+      {name signature flags location : ℕ} →
       Spells nameBytes name →
       Spells signatureBytes signature →
       NoHints flags →

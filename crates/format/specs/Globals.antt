@@ -1,5 +1,5 @@
--- Global (document 01, "The container": count; name, type, constant, alignment as varints; from 13.3 a visibility byte and
--- a varint constant flag, of which nonzero means 1).
+-- Global (document 01, "The container": count; name, type, constant, alignment as varints; from 13.3 a visibility
+-- byte and a varint constant flag, of which nonzero means 1).
 use mathlib.Core.Path.{_≡_}
 use Prim.Native.Nat.{ℕ}
 use mathlib.Core.Bool.{true}

@@ -1,6 +1,7 @@
 -- The image: the bytes that the container writer makes of tables (document 01, "The sheet", the paragraph "Writer", and
 -- "The container"). Numbers have their shortest spelling, and each first start is 0.
 use Prim.Native.Nat.{ℕ, _+_}
+use native.Mathlib.Decide.{ℕ-discrete}
 use mathlib.Core.Bool.{Bool, true, false, cond, _||_}
 use mathlib.Core.List.{List, [], _∷_, _++_, map}
 use mathlib.Core.Option.{Option, none, some}
@@ -63,11 +64,12 @@ onlyWhere q bs = choose q bs []
 unfoldable pub optionalByte : ℕ → ℕ → List ℕ
 optionalByte flags b = onlyWhere (bit0? flags) (b ∷ [])
 
--- What stands for flags and padding of a PartitionView: below 13.3 a presence byte behind the map and a varint.
+-- PartitionView: from 13.3 flags first and padding as b; below 13.3 a presence byte behind the map and padding as v.
 unfoldable pub partitionBytes : VersionClass → ℕ → List ℕ → ℕ → List ℕ → ℕ → List ℕ
 partitionBytes c flags shape view dims padding =
-    onlyWhere (since3? c) (spelling flags) ++ (countedBytes 4 shape ++ (spelling view ++ (countedBytes 4 dims ++
-    choose (since3? c) (optionalByte flags padding) (flags ∷ onlyWhere (bit0? flags) (spelling padding)))))
+    choose (since3? c)
+    (spelling flags ++ (countedBytes 4 shape ++ (spelling view ++ (countedBytes 4 dims ++ optionalByte flags padding))))
+    (countedBytes 4 shape ++ (spelling view ++ (countedBytes 4 dims ++ (flags ∷ onlyWhere (ℕ-discrete flags 1) (spelling padding)))))
 
 -- A type entry: a varint tag and its fields.
 unfoldable pub typeBytes : VersionClass → TypeRow → List ℕ
@@ -91,8 +93,8 @@ typeBytes c (function inputs results) = spelling tagFunc ++ (countedVarints inpu
 -- A global: from 13.3 with a visibility byte and a constant flag.
 unfoldable pub globalBytes : VersionClass → Global → List ℕ
 globalBytes c g =
-    varints (g .name ∷ g .type ∷ g .constant ∷ g .alignment ∷ []) ++
-    onlyWhere (since3? c) (g .visibility ∷ spelling (g .constantFlag))
+    spelling (g .name) ++ (spelling (g .type) ++ (spelling (g .constant) ++ (spelling (g .alignment) ++
+    (onlyWhere (since3? c) (g .visibility ∷ []) ++ onlyWhere (since3? c) (spelling (g .constantFlag))))))
 
 -- A function, its body last.
 unfoldable pub functionBytes : Function → List ℕ
@@ -120,8 +122,9 @@ debugBytes lists attributes =
     let ids = paddedNumbers 8 8 (length starts) (join lists) in
     starts ++ (ids ++ offsetTable 4 4 (length starts + length ids) attributes)
 
--- A section: its id, its alignment if it has one, and its payload.
+-- A section: whether it is written, its id, its alignment if it has one, and its payload.
 pub record Part : Type 0 where
+  pub present : Bool
   pub id : ℕ
   pub alignment : Option ℕ
   pub payload : List ℕ
@@ -142,41 +145,76 @@ partBytes i s =
     let size = spelling (length (s .payload)) in
     firstByte (s .id) (s .alignment) ∷ (size ++ (alignmentBytes (s .alignment) (i + 1 + length size) ++ s .payload))
 
--- Sections from file offset i on, and the end id.
+-- The sections that are written, from file offset i on, and the end id.
 unfoldable pub partsFrom : ℕ → List Part → List ℕ
 partsFrom i [] = endOfBytecode ∷ []
-partsFrom i (s ∷ ss) = partBytes i s ++ partsFrom (i + length (partBytes i s)) ss
+partsFrom i (s ∷ ss) = cond (s .present) (partBytes i s ++ partsFrom (i + length (partBytes i s)) ss) (partsFrom i ss)
 
--- The table has rows.
+-- "nonempty tables only"
 unfoldable pub hasRows : {A : Type 0} → List A → Bool
 hasRows [] = false
 hasRows (x ∷ xs) = true
 
--- The section is written or not.
-unfoldable pub written : Bool → ℕ → Option ℕ → List ℕ → List Part
-written b id alignment payload = cond b (record { id = id; alignment = alignment; payload = payload } ∷ []) []
+-- "alignment 4 for String and Type, 8 for Constant and Debug, no alignment bit elsewhere"
+unfoldable pub stringPart : List (List ℕ) → Part
+stringPart strings =
+    record { present = hasRows strings; id = stringId; alignment = some 4; payload = offsetTable 4 4 0 strings }
 
 -- "Producer if named"
-unfoldable pub producerParts : Option ℕ → List Part
-producerParts none = []
-producerParts (some index) = written true producerId none (spelling index)
+unfoldable pub isNamed : Option ℕ → Bool
+isNamed none = false
+isNamed (some index) = true
 
--- The entries of the Type section.
-unfoldable pub typeEntries : Tables → List (List ℕ)
-typeEntries t = map (typeBytes (class (t .version))) (t .types)
+unfoldable pub producerBytes : Option ℕ → List ℕ
+producerBytes none = []
+producerBytes (some index) = spelling index
 
--- The sections that are written, in reading order.
+unfoldable pub producerPart : Option ℕ → Part
+producerPart producer =
+    record { present = isNamed producer; id = producerId; alignment = none; payload = producerBytes producer }
+
+unfoldable pub typePart : VersionClass → List TypeRow → Part
+typePart c types =
+    record { present = hasRows types; id = typeId; alignment = some 4; payload = offsetTable 4 4 0 (map (typeBytes c) types) }
+
+unfoldable pub constantPart : List (List ℕ) → Part
+constantPart constants =
+    record { present = hasRows constants; id = constantId; alignment = some 8; payload = offsetTable 8 8 0 constants }
+
+unfoldable pub globalPart : VersionClass → List Global → Part
+globalPart c globals =
+    record {
+      present = hasRows globals;
+      id = globalId;
+      alignment = none;
+      payload = spelling (length globals) ++ join (map (globalBytes c) globals);
+    }
+
+unfoldable pub functionPart : List Function → Part
+functionPart functions =
+    record {
+      present = hasRows functions;
+      id = funcId;
+      alignment = none;
+      payload = spelling (length functions) ++ join (map functionBytes functions);
+    }
+
+-- "Debug if either of its tables has rows"
+unfoldable pub debugPart : List (List ℕ) → List Attribute → Part
+debugPart lists attributes =
+    record {
+      present = hasRows lists || hasRows attributes;
+      id = debugId;
+      alignment = some 8;
+      payload = debugBytes lists (map attributeBytes attributes);
+    }
+
+-- "in reading order"
 unfoldable pub partsOf : Tables → List Part
 partsOf t =
-    let c = class (t .version) in
-    written (hasRows (t .strings)) stringId (some 4) (offsetTable 4 4 0 (t .strings)) ++
-    (producerParts (t .producer) ++
-    (written (hasRows (t .types)) typeId (some 4) (offsetTable 4 4 0 (typeEntries t)) ++
-    (written (hasRows (t .constants)) constantId (some 8) (offsetTable 8 8 0 (t .constants)) ++
-    (written (hasRows (t .globals)) globalId none (spelling (length (t .globals)) ++ join (map (globalBytes c) (t .globals))) ++
-    (written (hasRows (t .functions)) funcId none (spelling (length (t .functions)) ++ join (map functionBytes (t .functions))) ++
-    written (hasRows (t .lists) || hasRows (t .attributes)) debugId (some 8)
-    (debugBytes (t .lists) (map attributeBytes (t .attributes))))))))
+    stringPart (t .strings) ∷ producerPart (t .producer) ∷ typePart (class (t .version)) (t .types) ∷
+    constantPart (t .constants) ∷ globalPart (class (t .version)) (t .globals) ∷ functionPart (t .functions) ∷
+    debugPart (t .lists) (t .attributes) ∷ []
 
 -- Eight bytes MAGIC, major u8, minor u8, tag u16.
 unfoldable pub headerBytes : Version → List ℕ
@@ -189,6 +227,6 @@ image t = headerBytes (t .version) ++ partsFrom 12 (partsOf t)
 -- Every u32 start fits (else refusal 13).
 pub record Starts32 (t : Tables) : Type 0 where
   pub strings : All (Fits 32) (sums 0 (t .strings))
-  pub types : All (Fits 32) (sums 0 (typeEntries t))
+  pub types : All (Fits 32) (sums 0 (map (typeBytes (class (t .version))) (t .types)))
   pub lists : All (Fits 32) (sums 0 (t .lists))
   pub attributes : All (Fits 32) (sums 0 (map attributeBytes (t .attributes)))

@@ -1,5 +1,5 @@
--- The items that payloads are made of (document 01, "Numbers on the wire" and "The container"). What stands for a number
--- does not depend on the place.
+-- The items that payloads are made of (document 01, "Numbers on the wire" and "The container"). What stands for a
+-- number does not depend on the place.
 use mathlib.Core.Path.{_≡_}
 use Prim.Native.Nat.{ℕ, _+_, _%_}
 use native.Mathlib.Decide.{ℕ-discrete}

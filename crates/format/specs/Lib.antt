@@ -21,3 +21,4 @@ pub mod DecodeRows
 pub mod DecodeDebug
 pub mod Decode
 pub mod Stands
+pub mod Views

@@ -1,5 +1,5 @@
--- Sections (document 01, "The container"): a byte with the id in its low seven bits, a varint length, and, if the top bit
--- is set, a varint alignment and padding; then the payload. Places count from the file's start.
+-- Sections (document 01, "The container"): a byte with the id in its low seven bits, a varint length, and, if the
+-- top bit is set, a varint alignment and padding; then the payload. Places count from the file's start.
 use mathlib.Core.Path.{_≡_}
 use Prim.Native.Nat.{ℕ, _+_, _%_, _≤_, _<_}
 use mathlib.Core.Option.{Option, none, some}
@@ -17,8 +17,8 @@ pub record Section : Type 0 where
   pub start : ℕ
   pub payload : List ℕ
 
--- What stands between length and payload, at file offset i: nothing if the top bit of the section's first byte is clear,
--- else an alignment and padding to it.
+-- What stands between length and payload, at file offset i: nothing if the top bit of the section's first byte is
+-- clear, else an alignment and padding to it.
 pub data Alignment (first : ℕ) : ℕ → List ℕ → Type 0 where
   unaligned : {i : ℕ} → first < 128 → Alignment first i []
   aligned : {i : ℕ} {bs : List ℕ} {a : ℕ} → 128 ≤ first → Spells bs a →

@@ -1,8 +1,8 @@
--- Offset tables: String, Constant, and Type's frame; and Producer (document 01, "The container"). Padding counts from the
--- payload's start.
+-- Offset tables: String, Constant, and Type's frame; and Producer (document 01, "The container"). Padding counts
+-- from the payload's start.
 use Prim.Native.Nat.{ℕ, _≤_, _<_}
 use mathlib.Core.Option.{Option, some}
-use mathlib.Core.List.{List, [], _∷_, _++_}
+use mathlib.Core.List.{List, [], _++_}
 use lib.ListN.{length}
 use Rattle.exact.specs.Exact.{Lang}
 use Rattle.exact.specs.Upto.{Whole}

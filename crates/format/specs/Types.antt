@@ -1,27 +1,25 @@
 -- Type entries (document 01, "The container": a varint tag and then its fields, by kind and version class).
 use mathlib.Core.Path.{_≡_}
-use Prim.Native.Nat.{ℕ, _+_}
+use Prim.Native.Nat.{ℕ}
 use mathlib.Core.Bool.{Bool, true, false, _||_}
 use mathlib.Core.List.{List, [], _∷_, _++_}
 use lib.Dec.{eqb}
-use lib.ListN.{length}
 use Rattle.exact.specs.Exact.{Lang}
 use Rattle.exact.specs.Sequence.{Of}
-use Rattle.exact.specs.Upto.{Upto}
 use Rattle.exact.specs.Entries.{Rows}
 use Rattle.enums.specs.Types as tags
 use Rattle.enums.specs.declared.VersionClass.{VersionClass}
 use Rattle.encoding.specs.Varint.{Spells}
 use Rattle.format.specs.Tables.{TypeRow, plain, pointer, tile, tensorView, partitionView, gatherScatterView, stridedView, function}
-use Rattle.format.specs.Items.{Byte, Field, Array, Indices, Truth, truth, Bit0, since13·3, since13·4}
+use Rattle.format.specs.Items.{Byte, Field, Array, Indices, Truth, Bit0, since13·3, since13·4}
 use Rattle.format.specs.Strings.{OffsetTable}
 
 -- The sixteen scalars and Token: nothing follows their tag.
 abbrev pub plainTags : List ℕ
 plainTags =
     tags.tagI1 ∷ tags.tagI8 ∷ tags.tagI16 ∷ tags.tagI32 ∷ tags.tagI64 ∷ tags.tagF16 ∷ tags.tagBF16 ∷ tags.tagF32 ∷
-    tags.tagTF32 ∷ tags.tagF64 ∷ tags.tagF8E4M3FN ∷ tags.tagF8E5M2 ∷ tags.tagToken ∷ tags.tagF8E8M0FNU ∷ tags.tagF4E2M1FN ∷
-    tags.tagI4 ∷ tags.tagF8E5M3FNU ∷ []
+    tags.tagTF32 ∷ tags.tagF64 ∷ tags.tagF8E4M3FN ∷ tags.tagF8E5M2 ∷ tags.tagToken ∷ tags.tagF8E8M0FNU ∷
+    tags.tagF4E2M1FN ∷ tags.tagI4 ∷ tags.tagF8E5M3FNU ∷ []
 
 -- Whether a number is among these.
 abbrev pub among : ℕ → List ℕ → Bool
@@ -45,7 +43,8 @@ pub data Tile : List ℕ → TypeRow → Type 0 where
 
 -- TensorView: flags v from 13.4, element v, counted i64 shape, counted i64 strides, b if bit 0.
 pub data TensorView (c : VersionClass) : List ℕ → TypeRow → Type 0 where
-  fields : {flagsBytes elementBytes shapeBytes stridesBytes attributeBytes shape strides : List ℕ} {flags element attribute : ℕ} →
+  fields : {flagsBytes elementBytes shapeBytes stridesBytes attributeBytes shape strides : List ℕ}
+      {flags element attribute : ℕ} →
       Field (since13·4 c ≡ true) Spells flagsBytes flags →
       Spells elementBytes element →
       Array 8 shapeBytes shape →
@@ -65,8 +64,8 @@ pub data PartitionView : List ℕ → TypeRow → Type 0 where
       PartitionView (flagsBytes ++ (shapeBytes ++ (viewBytes ++ (mapBytes ++ paddingBytes))))
       (partitionView flags shape view map padding)
 
--- PartitionView below 13.3: counted i32 shape, view v, counted i32 map, a presence byte (nonzero means 1); if present,
--- padding as v. The presence stands where flags stand from 13.3.
+-- PartitionView below 13.3: counted i32 shape, view v, counted i32 map, a presence byte (nonzero means 1); if
+-- present, padding as v. The presence stands where flags stand from 13.3.
 pub data OldPartitionView : List ℕ → TypeRow → Type 0 where
   fields : {shapeBytes viewBytes mapBytes presenceBytes paddingBytes shape map : List ℕ} {view presence padding : ℕ} →
       Array 4 shapeBytes shape →
@@ -90,7 +89,8 @@ pub data GatherScatterView : List ℕ → TypeRow → Type 0 where
 
 -- StridedView: flags v, counted i32 shape, counted i32 strides, view v, counted i32 map, b if bit 0.
 pub data StridedView : List ℕ → TypeRow → Type 0 where
-  fields : {flagsBytes shapeBytes stridesBytes viewBytes mapBytes paddingBytes shape strides map : List ℕ} {flags view padding : ℕ} →
+  fields : {flagsBytes shapeBytes stridesBytes viewBytes mapBytes paddingBytes shape strides map : List ℕ}
+      {flags view padding : ℕ} →
       Spells flagsBytes flags →
       Array 4 shapeBytes shape →
       Array 4 stridesBytes strides →
@@ -117,7 +117,8 @@ pub data Fields (c : VersionClass) (t : ℕ) : List ℕ → TypeRow → Type 0 w
       Fields c t bs v
   an-oldPartitionView : {bs : List ℕ} {v : TypeRow} → t ≡ tags.tagPartitionView → since13·3 c ≡ false →
       OldPartitionView bs v → Fields c t bs v
-  a-gatherScatterView : {bs : List ℕ} {v : TypeRow} → t ≡ tags.tagGatherScatterView → GatherScatterView bs v → Fields c t bs v
+  a-gatherScatterView : {bs : List ℕ} {v : TypeRow} → t ≡ tags.tagGatherScatterView → GatherScatterView bs v →
+      Fields c t bs v
   a-stridedView : {bs : List ℕ} {v : TypeRow} → t ≡ tags.tagStridedView → StridedView bs v → Fields c t bs v
   a-function : {bs : List ℕ} {v : TypeRow} → t ≡ tags.tagFunc → FunctionType bs v → Fields c t bs v
 

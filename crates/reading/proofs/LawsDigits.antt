@@ -1,6 +1,6 @@
 -- How the loop of `read_varint` follows the digits of a varint: what they answer where the next byte is known, and what
 -- holds between two turns. Assumes nothing.
-use mathlib.Core.Path.{_≡_, refl, sym, ap, _∙_}
+use mathlib.Core.Path.{_≡_, refl, sym, ap, _∙_, subst}
 use Prim.Native.Nat.{ℕ, zero, suc, _+_, _*_, _%_, _-_, _^_, _≤_, _<_}
 use native.Mathlib.Nat.{one-le-pow, pow-suc, mul-le-mul-left}
 use native.Mathlib.Omega.{arith}
@@ -14,7 +14,7 @@ use Rattle.exact.specs.Padding.{broke, blamed}
 use Rattle.exact.proofs.LawsChoice.{choose-yes, choose-no}
 use Rattle.exact.proofs.LawsSteps.{byte-at, byte-end}
 use Rattle.enums.specs.Refusals as refusals
-use Rattle.reading.specs.Numbers.{digits, varintAt, Word}
+use Rattle.reading.specs.Numbers.{digits, varintAt, Word, Begins}
 use Rattle.reading.proofs.LawsWord.{word-byte}
 
 -- What the bytes before give, and f times what the bytes behind them do.
@@ -152,6 +152,13 @@ module _ (s : List ℕ) (at i acc f : ℕ) (x : Loop s at i acc f) (none : at + 
       let z : at + 9 - i ≡ 0 = omega arith in
       let e : b ≡ getD s i 0 = word-byte s i b h w in
       sym (x .model ∙ rw (z, digits-long s i h (omega arith)))
+
+-- Behind the first byte.
+pub loop-second : (s : List ℕ) (at b : ℕ) → Begins s at b → Loop s at (at + 1) (b % 128) 128
+loop-second s at b g =
+    let e : 0 + 1 * (b % 128) ≡ b % 128 = omega arith in
+    subst (λ n. Loop s at (at + 1) n 128) e
+    (loop-more s at at 0 1 (loop-start s at) (omega arith) (g .inside) b (g .first) (g .more))
 
 -- A number that is not there ..
 pub varint-end : (s : List ℕ) (at : ℕ) → length s ≤ at → stop refusals.short at ≡ varintAt s at

@@ -2,7 +2,7 @@
 -- Assumes nothing.
 use mathlib.Core.Path.{_≡_, refl, sym, ap, _∙_}
 use Prim.Native.Nat.{ℕ, zero, suc, _+_, _*_, _-_, _/_, _≤_, _<_}
-use native.Mathlib.Nat.{div-mul-le-self, lt-div-mul-add, mul-le-mul-right}
+use native.Mathlib.Nat.{div-mul-le-self, lt-div-mul-add, div-lt-iff-lt-mul, mul-le-mul-right, mul-zero}
 use native.Mathlib.Omega.{arith}
 use native.Mathlib.Decide.{decLt}
 use mathlib.Core.List.{List}
@@ -15,7 +15,7 @@ use Rattle.exact.specs.Repeat.{times, counted}
 use Rattle.exact.specs.Fixed.{raw, little, fixed, nums}
 use Rattle.exact.specs.Padding.{here}
 use Rattle.exact.proofs.LawsExact.{stop-not-got, got-value, got-next}
-use Rattle.exact.proofs.LawsSequence.{bind-got, bind-stop}
+use Rattle.exact.proofs.LawsSequence.{follow-inv, bind-got, bind-stop}
 use Rattle.exact.proofs.LawsSteps.{raw-at, raw-end, fixed-at, fixed-end, times-at, times-end}
 use Rattle.reading.specs.Numbers.{varintAt, placed, itemsAt, countedAt, Word}
 use Rattle.reading.proofs.LawsNumbers.{varint-in}
@@ -119,3 +119,74 @@ module _ (w : ℕ) (s : List ℕ) (i : ℕ) where
         let b : length s - start < suc k * w = omega (arith, lt-div-mul-add {a = left} p) in
         sym (bind-got varintAt _ s i count start (sym e) ∙
         placed-end (times count (fixed w)) s start _ _ (times-end count w s start k h a b))
+
+pos-of : (n w : ℕ) → 0 < n * w → 0 < w
+pos-of n zero h = let z : n * 0 ≡ 0 = mul-zero n in omega arith
+pos-of n (suc w) h = omega arith
+
+-- n numbers are n.
+pub length-nums : (n w : ℕ) (s : List ℕ) → length (nums n w s) ≡ n
+unfolding nums
+length-nums zero w s = refl
+length-nums (suc n) w s = ap suc (length-nums n w (drop w s))
+
+-- n numbers that were read are those at the place, and are all there.
+pub times-got : (n w : ℕ) (l : List ℕ) (i : ℕ) (vs : List ℕ) (j : ℕ) → times n (fixed w) l i ≡ got vs j →
+    (n * w ≤ length l - i) × (vs ≡ nums n w (drop i l)) × (j ≡ i + n * w)
+times-got n w l i vs j e =
+    elim (decLt (length l - i) (n * w)) [
+      | yes h ↦
+          let p : 0 < w = pos-of n w (omega arith) in
+          let k : (length l - i) / w < n = div-lt-iff-lt-mul p .1 h in
+          let b : length l - i < suc ((length l - i) / w) * w = omega (arith, lt-div-mul-add {a = length l - i} p) in
+          absurd (stop-not-got (sym (times-end n w l i ((length l - i) / w) k (div-mul-le-self (length l - i) w) b) ∙ e))
+      | no h ↦
+          let m : n * w ≤ length l - i = omega arith in
+          let f : got vs j ≡ got (nums n w (drop i l)) (i + n * w) = sym e ∙ times-at n w l i m in
+          (m, got-value f, got-next f)
+    ]
+
+module _ (w : ℕ) (s : List ℕ) (i start : ℕ) where
+  array : (n j : ℕ) (vs : List ℕ) (next : ℕ) → length vs ≡ n → start ≡ j → vs ≡ nums n w (drop j s) → next ≡ j + n * w →
+      n * w ≤ length s - j → (i < j) × (j ≤ length s) →
+      (i < start) × (vs ≡ nums (length vs) w (drop start s)) × (next ≡ start + length vs * w) × (next ≤ length s)
+  array n j vs next c a q z m b = (omega arith, rw (c, a) q, rw (c, a) z, omega arith)
+
+module _ (w : ℕ) (s : List ℕ) (i start : ℕ) (vs : List ℕ) (next : ℕ) (e : itemsAt w s i ≡ got (start, vs) next) where
+  -- A counted array with its place is a counted array, ..
+  pub items-counted : countedAt w s i ≡ got vs next
+  unfolding itemsAt countedAt counted bind
+  items-counted =
+      let (n, j, g, h) = follow-inv (varintAt s i) (λ n j. placed (times n (fixed w)) s j) (start, vs) next e in
+      bind-got varintAt (λ n. times n (fixed w)) s i n j (sym g) ∙ placed-got (times n (fixed w)) s j start vs next h .1
+
+  -- .. whose numbers stand from its place up to the next, behind the count.
+  pub items-got : (i < start) × (vs ≡ nums (length vs) w (drop start s)) × (next ≡ start + length vs * w) × (next ≤ length s)
+  unfolding itemsAt bind
+  items-got =
+      let (n, j, g, h) = follow-inv (varintAt s i) (λ n j. placed (times n (fixed w)) s j) (start, vs) next e in
+      let (a, t) = placed-got (times n (fixed w)) s j start vs next h in
+      let (m, q, z) = times-got n w s j vs next t in
+      let c : length vs ≡ n = ap length q ∙ length-nums n w (drop j s) in
+      let b = varint-in s i n j (sym g) in
+      array w s i start n j vs next c a q z m b
+
+-- The other way round, a counted array has a place where its numbers begin.
+pub counted-items : (w : ℕ) (s : List ℕ) (i : ℕ) (vs : List ℕ) (next : ℕ) → countedAt w s i ≡ got vs next →
+    (start : ℕ) × (itemsAt w s i ≡ got (start, vs) next)
+unfolding itemsAt countedAt counted bind
+counted-items w s i vs next e =
+    let (n, j, g, h) = follow-inv (varintAt s i) (λ n j. times n (fixed w) s j) vs next e in
+    (j, bind-got varintAt (λ n. placed (times n (fixed w))) s i n j (sym g) ∙ placed-at (times n (fixed w)) s j vs next h)
+
+stop-as : {A B : Type 0} {c d k m : ℕ} → _≡_ {A = Got A} (stop d m) (stop c k) → _≡_ {A = Got B} (stop d m) (stop c k)
+stop-as e = cc
+
+-- A refused array is refused in the same place.
+pub items-refused : (w : ℕ) (s : List ℕ) (i c k : ℕ) → itemsAt w s i ≡ stop c k → countedAt w s i ≡ stop c k
+unfolding itemsAt countedAt counted bind follow
+items-refused w s i c k e = go (varintAt s i) e
+  where
+    go : (g : Got ℕ) → follow g (λ n j. placed (times n (fixed w)) s j) ≡ stop c k → follow g (λ n j. times n (fixed w) s j) ≡ stop c k
+    go (got n j) h = placed-stop (times n (fixed w)) s j c k h
+    go (stop d m) h = stop-as h

@@ -3,4 +3,7 @@ pub mod LawsWord
 pub mod LawsDigits
 pub mod LawsSkip
 pub mod LawsPlaced
+pub mod LawsSigned
 pub mod LawsShown
+pub mod LawsBack
+pub mod LawsInside

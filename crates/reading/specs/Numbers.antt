@@ -1,7 +1,7 @@
 -- A parser for each spelling of a number (document 01, "Numbers on the wire"). A refusal names the first byte of the
 -- number, byte run or padding that was being read.
 use mathlib.Core.Path.{_≡_}
-use Prim.Native.Nat.{ℕ, zero, suc, _+_, _*_, _-_, _%_, _^_, _<_}
+use Prim.Native.Nat.{ℕ, zero, suc, _+_, _*_, _-_, _%_, _^_, _≤_, _<_}
 use native.Mathlib.Decide.{decLt}
 use mathlib.Core.List.{List}
 use lib.IntN.{ℤ}
@@ -54,6 +54,12 @@ itemsAt w = bind varintAt (λ n. placed (times n (fixed w)))
 pub record Word (w : ℕ) (l : List ℕ) (i n : ℕ) : Type 0 where
   pub value : n ≡ little (take w (drop i l))
   pub fits : n < 256 ^ w
+
+-- At a place stands the byte b, and a varint goes on behind it.
+pub record Begins (l : List ℕ) (i b : ℕ) : Type 0 where
+  pub inside : i < length l
+  pub first : Word 1 l i b
+  pub more : 128 ≤ b
 
 -- How many bytes are left at a place: none past the end.
 abbrev pub remainingAt : List ℕ → ℕ → ℕ

@@ -1,6 +1,7 @@
 -- What each answer of the code stands for: a value and the next place, or document 01's number and the place it names.
 use Prim.Native.Nat.{ℕ, _-_}
 use mathlib.Core.List.{List}
+use lib.IntN.{ℤ}
 use lib.ListN.{take, drop}
 use Rattle.exact.specs.Got.{Got, got, stop}
 use Rattle.exact.specs.Fixed.{nums}
@@ -12,6 +13,10 @@ use Rattle.reading.specs.declared.U32Read.{U32Read}
 use Rattle.reading.specs.declared.U32Read.the-variants as u32
 use Rattle.reading.specs.declared.NumRead.{NumRead}
 use Rattle.reading.specs.declared.NumRead.the-variants as num
+use Rattle.reading.specs.declared.I32Read.{I32Read}
+use Rattle.reading.specs.declared.I32Read.the-variants as i32
+use Rattle.reading.specs.declared.I64Read.{I64Read}
+use Rattle.reading.specs.declared.I64Read.the-variants as i64
 use Rattle.reading.specs.declared.BytesRead.{BytesRead}
 use Rattle.reading.specs.declared.BytesRead.the-variants as bytes
 use Rattle.reading.specs.declared.PaddingRead.{PaddingRead}
@@ -34,6 +39,14 @@ gotU32 (u32.Stop x) = stop (x .no) (x .at)
 abbrev pub gotNum : NumRead → Got ℕ
 gotNum (num.Got v r) = got v (r .pos)
 gotNum (num.Stop x) = stop (x .no) (x .at)
+
+abbrev pub gotI32 : I32Read → Got ℤ
+gotI32 (i32.Got v r) = got v (r .pos)
+gotI32 (i32.Stop x) = stop (x .no) (x .at)
+
+abbrev pub gotI64 : I64Read → Got ℤ
+gotI64 (i64.Got v r) = got v (r .pos)
+gotI64 (i64.Stop x) = stop (x .no) (x .at)
 
 -- The place where the bytes start, and the bytes themselves: those of the data from there up to the next place.
 abbrev pub gotBytes : List ℕ → BytesRead → Got (ℕ × List ℕ)

@@ -5,12 +5,15 @@ ghost use Prim.Native.Nat.{_+_, _≤_, _<_, min};
 ghost use lib.ListN.{length};
 ghost use Rattle.exact.specs.Basic.{byte};
 ghost use Rattle.exact.specs.Fixed.{raw, fixed};
-ghost use Rattle.reading.specs.Numbers.{varintAt, paddingAt, placed, itemsAt, remainingAt, Word};
-ghost use Rattle.reading.specs.Shown.{gotByte, gotU16, gotU32, gotNum, gotBytes, gotPadding, gotItems};
+ghost use Rattle.encoding.specs.Signed as Signed;
+ghost use Rattle.reading.specs.Numbers.{varintAt, signedVarintAt, signedAt, paddingAt, placed, itemsAt};
+ghost use Rattle.reading.specs.Numbers.{remainingAt, Word, Begins};
+ghost use Rattle.reading.specs.Shown.{gotByte, gotU16, gotU32, gotNum, gotI32, gotI64};
+ghost use Rattle.reading.specs.Shown.{gotBytes, gotPadding, gotItems};
 use enums::ALIGNMENT_BYTE;
 use enums::Refusal;
 
-// A place in the data that the next read starts from.
+// The place in the data where the next read starts.
 pub struct Reader {
     pub pos: usize,
 }
@@ -21,6 +24,7 @@ pub struct Refused {
     pub at: usize,
 }
 
+// What each read answers: the value and the reader behind it, or a refusal.
 pub enum ByteRead {
     Got(u8, Reader),
     Stop(Refused),
@@ -41,7 +45,17 @@ pub enum NumRead {
     Stop(Refused),
 }
 
-// The bytes from a place up to the reader.
+pub enum I32Read {
+    Got(i32, Reader),
+    Stop(Refused),
+}
+
+pub enum I64Read {
+    Got(i64, Reader),
+    Stop(Refused),
+}
+
+// The bytes from a place up to the reader, which stay where they are.
 pub enum BytesRead {
     Got(usize, Reader),
     Stop(Refused),
@@ -76,24 +90,47 @@ fn u16_at(data: &[u8], at: usize) -> u64
     requires { ⌜ at + 2 ≤ length (now «data») ⌝ }
     ensures { λ r. ⌜ Word 2 (now («data» .entry)) at r ⌝ }
 {
-    byte_at(data, at) + 256 * byte_at(data, at + 1)
+    let low = byte_at(data, at);
+    let high = byte_at(data, at + 1);
+    low + 256 * high
 }
 
 fn u32_at(data: &[u8], at: usize) -> u64
     requires { ⌜ at + 4 ≤ length (now «data») ⌝ }
     ensures { λ r. ⌜ Word 4 (now («data» .entry)) at r ⌝ }
 {
-    u16_at(data, at) + 65536 * u16_at(data, at + 2)
+    let low = u16_at(data, at);
+    let high = u16_at(data, at + 2);
+    low + 65536 * high
 }
 
 fn u64_at(data: &[u8], at: usize) -> u64
     requires { ⌜ at + 8 ≤ length (now «data») ⌝ }
     ensures { λ r. ⌜ Word 8 (now («data» .entry)) at r ⌝ }
 {
-    u32_at(data, at) + 4294967296 * u32_at(data, at + 4)
+    let low = u32_at(data, at);
+    let high = u32_at(data, at + 4);
+    low + 4294967296 * high
+}
+
+// The signed number that stands zigzagged in a varint: 0, 1, 2, 3, .. are 0, -1, 1, -2, ..
+fn unzigzag(v: u64) -> i64
+    ensures { λ r. ⌜ r ≡ Signed.unzigzag v ⌝ }
+{
+    if v % 2 == 0 {
+        return encoding::i64_of_bits(v / 2);
+    }
+    encoding::i64_of_bits(!(v / 2))
 }
 
 impl Reader {
+    // At the start of the data.
+    pub fn new() -> Self
+        ensures { λ r. ⌜ r .pos ≡ 0 ⌝ }
+    {
+        Reader { pos: 0 }
+    }
+
     // How many bytes are left: none past the end.
     pub fn remaining(self, data: &[u8]) -> usize
         ensures { λ r. ⌜ r ≡ remainingAt (now («data» .entry)) (self .pos) ⌝ }
@@ -143,11 +180,11 @@ impl Reader {
                 at,
             });
         }
-        let b = byte_at(data, at);
-        if b < 128 {
-            return NumRead::Got(b, Reader { pos: at + 1 });
+        let first = byte_at(data, at);
+        if first < 128 {
+            return NumRead::Got(first, Reader { pos: at + 1 });
         }
-        self.read_digits(data)
+        self.read_digits(data, first)
     }
 
     // The place n bytes further on, or where the data ends before that.
@@ -161,16 +198,17 @@ impl Reader {
         self.pos + n
     }
 
-    // A number of any length: each of the first nine bytes counts seven bits, `weight` what the next of them counts, and the
-    // tenth counts its lowest bit alone.
-    fn read_digits(self, data: &[u8]) -> NumRead
+    // A number of more than one byte: each of the first nine counts seven bits, `weight` what the next of them counts, and
+    // the tenth counts its lowest bit alone.
+    fn read_digits(self, data: &[u8], first: u64) -> NumRead
+        requires { ⌜ Begins (now «data») (self .pos) first ⌝ }
         ensures { λ r. ⌜ gotNum r ≡ varintAt (now («data» .entry)) (self .pos) ⌝ }
     {
         let at = self.pos;
         let ninth = self.at_most(data, 9);
-        let mut i = at;
-        let mut result: u64 = 0;
-        let mut weight: u64 = 1;
+        let mut i = at + 1;
+        let mut result = first % 128;
+        let mut weight: u64 = 128;
         while i < ninth {
             let b = byte_at(data, i);
             if b < 128 {
@@ -194,6 +232,15 @@ impl Reader {
             });
         }
         NumRead::Got(result + weight * (b % 2), Reader { pos: i + 1 })
+    }
+
+    pub fn read_signed_varint(self, data: &[u8]) -> I64Read
+        ensures { λ r. ⌜ gotI64 r ≡ signedVarintAt (now («data» .entry)) (self .pos) ⌝ }
+    {
+        match self.read_varint(data) {
+            NumRead::Stop(x) => I64Read::Stop(x),
+            NumRead::Got(v, next) => I64Read::Got(unzigzag(v), next),
+        }
     }
 
     pub fn read_le_u8(self, data: &[u8]) -> ByteRead
@@ -226,6 +273,24 @@ impl Reader {
         match self.read_bytes(data, 8) {
             BytesRead::Stop(x) => NumRead::Stop(x),
             BytesRead::Got(start, next) => NumRead::Got(u64_at(data, start), next),
+        }
+    }
+
+    pub fn read_le_i64(self, data: &[u8]) -> I64Read
+        ensures { λ r. ⌜ gotI64 r ≡ signedAt 8 (now («data» .entry)) (self .pos) ⌝ }
+    {
+        match self.read_le_u64(data) {
+            NumRead::Stop(x) => I64Read::Stop(x),
+            NumRead::Got(bits, next) => I64Read::Got(encoding::i64_of_bits(bits), next),
+        }
+    }
+
+    pub fn read_le_i32(self, data: &[u8]) -> I32Read
+        ensures { λ r. ⌜ gotI32 r ≡ signedAt 4 (now («data» .entry)) (self .pos) ⌝ }
+    {
+        match self.read_le_u32(data) {
+            U32Read::Stop(x) => I32Read::Stop(x),
+            U32Read::Got(bits, next) => I32Read::Got(encoding::i32_of_bits(bits), next),
         }
     }
 
@@ -270,18 +335,15 @@ impl Reader {
                 let start = first.pos;
                 let room = first.remaining(data) / width;
                 if (room as u64) < count {
+                    let broken = start + room * width;
                     return ItemsRead::Stop(Refused {
                         no: Refusal::SHORT,
-                        at: start + room * width,
+                        at: broken,
                     });
                 }
                 let count = count as usize;
-                ItemsRead::Got(
-                    Items { count, start },
-                    Reader {
-                        pos: start + count * width,
-                    },
-                )
+                let next = start + count * width;
+                ItemsRead::Got(Items { count, start }, Reader { pos: next })
             }
         }
     }

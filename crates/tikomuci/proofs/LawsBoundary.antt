@@ -1,19 +1,24 @@
 -- A call answers what the crate below answered; and any two results that a call's contract allows are equal.
 -- Assumes nothing.
-use mathlib.Core.Path.{_≡_, refl, sym, ap, _∙_}
+use mathlib.Core.Path.{_≡_, refl, sym, ap, _∙_, subst}
 use Prim.Native.Nat.{ℕ, zero, suc}
 use mathlib.Core.List.{List}
 use lib.ListN.{length, drop}
 use Rattle.exact.specs.Fixed.{nums}
 use Rattle.encoding.specs.Out.{Wrote}
 use Rattle.encoding.specs.Shown as below
+use Rattle.encoding.specs.Floats as floats
+use Rattle.encoding.proofs.LawsFloats.{float-bytes-only}
+use Rattle.encoding.specs.declared.EncodingWriter.{EncodingWriter}
+use Rattle.encoding.specs.declared.FloatType.{FloatType}
+use Rattle.encoding.specs.declared.Written.{Written}
 use Rattle.reading.specs.Shown.{gotBytes, gotItems}
 use Rattle.reading.specs.declared.BytesRead.{BytesRead}
 use Rattle.reading.specs.declared.BytesRead.the-variants as bytes
 use Rattle.reading.specs.declared.ItemsRead.{ItemsRead}
 use Rattle.reading.specs.declared.ItemsRead.the-variants as array
 use Rattle.tikomuci.specs.declared.Answer.{Answer}
-use Rattle.tikomuci.specs.Boundary.{Puts, run, runOf, items, itemsOf}
+use Rattle.tikomuci.specs.Boundary.{Puts, Writes, WritesFloat, nextPlace, run, runOf, items, itemsOf}
 
 -- An answer that shows x, which is known to be y, shows y.
 pub told : {A : Type 0} (f : A → Answer) {r : Answer} {x y : A} → r ≡ f x → x ≡ y → r ≡ f y
@@ -23,6 +28,11 @@ told f e h = e ∙ ap f h
 pub puts : (f : Wrote → Answer) {n at required : ℕ} {bs out out' : List ℕ} {r : Answer} {x : Wrote} → r ≡ f x →
     below.Puts n at required bs out out' x → Puts f n at required bs out out' r
 puts f e p = record { answer = told f e (p .answer); output = p .output }
+
+-- The same of a float attribute.
+pub puts-float : {w : EncodingWriter} {bits : ℕ} {ty : FloatType} {out out' : List ℕ} {r : Answer} {x : Written} → w .«required_alignment» ≡ 1 →
+    r ≡ nextPlace (below.wroteOf x) → floats.WritesFloat w bits ty out out' x → WritesFloat (w .at) bits ty out out' r
+puts-float e f p = record { bytes = p .bytes; spelt = p .spelt; written = rw (← e) (puts nextPlace f (p .written)) }
 
 -- A run is answered by its places, whatever the data ..
 pub run-of : (s : List ℕ) (r : BytesRead) → runOf r ≡ run (gotBytes s r)
@@ -43,6 +53,12 @@ items-of w s (array.Stop x) = refl
 pub puts-only : {f : Wrote → Answer} {n at required : ℕ} {bs out a b : List ℕ} {r s : Answer} →
     Puts f n at required bs out a r → Puts f n at required bs out b s → (r ≡ s) × (a ≡ b)
 puts-only p q = (p .answer ∙ sym (q .answer), p .output ∙ sym (q .output))
+
+-- The same of a float attribute.
+pub float-only : {at bits : ℕ} {ty : FloatType} {out a b : List ℕ} {r s : Answer} → WritesFloat at bits ty out a r →
+    WritesFloat at bits ty out b s → (r ≡ s) × (a ≡ b)
+float-only {at} {out = out} {b = b} {s = s} p q =
+    puts-only (p .written) (subst (λ (l : List ℕ). Writes at l out b s) (float-bytes-only (q .spelt) (p .spelt)) (q .written))
 
 -- A call that reads answers a function of the data: two answers are equal.
 pub read-only : {r s x : Answer} → r ≡ x → s ≡ x → r ≡ s

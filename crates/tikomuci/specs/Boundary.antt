@@ -9,6 +9,8 @@ use Rattle.exact.specs.Got.{Got, got, stop}
 use Rattle.enums.specs.Refusals as refusals
 use Rattle.encoding.specs.Out.{Wrote, wrote, refused, put, after}
 use Rattle.encoding.specs.Signed.{pattern}
+use Rattle.encoding.specs.Floats.{FloatBytes}
+use Rattle.encoding.specs.declared.FloatType.{FloatType}
 use Rattle.reading.specs.declared.BytesRead.{BytesRead}
 use Rattle.reading.specs.declared.BytesRead.the-variants as bytes
 use Rattle.reading.specs.declared.ItemsRead.{ItemsRead}
@@ -81,3 +83,9 @@ Writes at = Puts nextPlace refusals.full at 1
 -- A patch: 14 outside.
 abbrev pub Patches : ℕ → List ℕ → List ℕ → List ℕ → Answer → Type 0
 Patches at = Puts nextPlace refusals.notThere at 1
+
+-- A writer's call that put an f64, by its bits, in a float type.
+pub record WritesFloat (at bits : ℕ) (ty : FloatType) (out out' : List ℕ) (r : Answer) : Type 0 where
+  pub bytes : List ℕ
+  pub spelt : FloatBytes bits ty bytes
+  pub written : Writes at bytes out out' r

@@ -1,11 +1,14 @@
 // The exported calls: thin, over plain numbers and byte slices. Each contract is that of the crate below it, seen through
 // the answer struct; a refused call changes no lent memory.
 use encoding::EncodingWriter;
+use encoding::FloatType;
 use encoding::Patched;
 use encoding::Written;
 use enums::Stage;
 use reading::ByteRead;
 use reading::BytesRead;
+use reading::I32Read;
+use reading::I64Read;
 use reading::ItemsRead;
 use reading::NumRead;
 use reading::PaddingRead;
@@ -21,13 +24,15 @@ ghost use Rattle.exact.specs.Fixed.{bytesOf, fixed, raw};
 ghost use Rattle.exact.specs.Padding.{gap};
 ghost use Rattle.enums.specs.Container.{P};
 ghost use Rattle.enums.specs.Refusals as refusals;
+ghost use Rattle.float8.specs.Formats.{E4M3FN, E5M2};
+ghost use Rattle.encoding.specs.declared.FloatType.the-variants.{F64, F8E4M3FN, F8E5M2};
 ghost use Rattle.encoding.specs.Out.{countedBytes, required};
 ghost use Rattle.encoding.specs.Shown.{wroteOf, patchedOf};
 ghost use Rattle.encoding.specs.Signed.{zigzag, pattern};
 ghost use Rattle.encoding.specs.Varint.{spelling};
 ghost use Rattle.reading.specs.Numbers.{varintAt, signedVarintAt, signedAt, paddingAt, itemsAt, remainingAt, placed};
-ghost use Rattle.reading.specs.Shown.{gotByte, gotU16, gotU32, gotNum, gotBytes, gotPadding, gotItems};
-ghost use Rattle.tikomuci.specs.Boundary.{accepted, refusedAs, Puts, Writes, Patches, nextPlace, nextAligned, number, signedNumber, run, runOf, items, itemsOf, skipped};
+ghost use Rattle.reading.specs.Shown.{gotByte, gotU16, gotU32, gotNum, gotI32, gotI64, gotBytes, gotPadding, gotItems};
+ghost use Rattle.tikomuci.specs.Boundary.{accepted, refusedAs, Puts, Writes, WritesFloat, Patches, nextPlace, nextAligned, number, signedNumber, run, runOf, items, itemsOf, skipped};
 
 // What every call that can be refused answers.
 #[repr(C)]
@@ -137,6 +142,29 @@ fn num_read(r: NumRead) -> Answer
     }
 }
 
+// A signed number that was read, as its bit pattern, and the next place.
+fn i64_read(r: I64Read) -> Answer
+    ensures { λ a. ⌜ a ≡ signedNumber 64 (gotI64 r) ⌝ }
+{
+    match r {
+        I64Read::Got(value, next) => Answer::accept(encoding::bits_of_i64(value), next.pos as u64),
+        I64Read::Stop(refused) => Answer::refuse(refused.no),
+    }
+}
+
+// A signed number that was read, as its bit pattern, and the next place.
+fn i32_read(r: I32Read) -> Answer
+    ensures { λ a. ⌜ a ≡ signedNumber 32 (gotI32 r) ⌝ }
+{
+    match r {
+        I32Read::Got(value, next) => Answer::accept(
+            encoding::bits_of_i32(value) as u64,
+            next.pos as u64,
+        ),
+        I32Read::Stop(refused) => Answer::refuse(refused.no),
+    }
+}
+
 // A run: where it starts, and the next place.
 fn bytes_read(r: BytesRead) -> Answer
     ensures { λ a. ⌜ a ≡ runOf r ⌝ }
@@ -213,6 +241,18 @@ pub extern "C" fn tikomuci_write_varint(out: &mut [u8], at: u64, value: u64) -> 
     written(writer.write_varint(out, value))
 }
 
+// A signed varint, by zigzag.
+#[no_mangle]
+pub extern "C" fn tikomuci_write_signed_varint(out: &mut [u8], at: u64, value: i64) -> Answer
+    ensures { λ r. ⌜ Writes at (spelling (zigzag value)) (now (out .entry)) (now (out .exit)) r ⌝ }
+{
+    let writer = EncodingWriter {
+        at: at as usize,
+        required_alignment: 1,
+    };
+    written(writer.write_signed_varint(out, value))
+}
+
 // A number of 8 bits.
 #[no_mangle]
 pub extern "C" fn tikomuci_write_le_u8(out: &mut [u8], at: u64, value: u8) -> Answer
@@ -261,6 +301,30 @@ pub extern "C" fn tikomuci_write_le_u64(out: &mut [u8], at: u64, value: u64) -> 
     written(writer.write_le_u64(out, value))
 }
 
+// A signed number of 32 bits.
+#[no_mangle]
+pub extern "C" fn tikomuci_write_le_i32(out: &mut [u8], at: u64, value: i32) -> Answer
+    ensures { λ r. ⌜ Writes at (bytesOf 4 (pattern 32 value)) (now (out .entry)) (now (out .exit)) r ⌝ }
+{
+    let writer = EncodingWriter {
+        at: at as usize,
+        required_alignment: 1,
+    };
+    written(writer.write_le_i32(out, value))
+}
+
+// A signed number of 64 bits.
+#[no_mangle]
+pub extern "C" fn tikomuci_write_le_i64(out: &mut [u8], at: u64, value: i64) -> Answer
+    ensures { λ r. ⌜ Writes at (bytesOf 8 (pattern 64 value)) (now (out .entry)) (now (out .exit)) r ⌝ }
+{
+    let writer = EncodingWriter {
+        at: at as usize,
+        required_alignment: 1,
+    };
+    written(writer.write_le_i64(out, value))
+}
+
 // A float of 32 bits, by its bits.
 #[no_mangle]
 pub extern "C" fn tikomuci_write_le_f32(out: &mut [u8], at: u64, bits: u32) -> Answer
@@ -283,6 +347,82 @@ pub extern "C" fn tikomuci_write_le_f64(out: &mut [u8], at: u64, bits: u64) -> A
         required_alignment: 1,
     };
     written(writer.write_le_f64(out, bits))
+}
+
+// A count, and as many signed numbers of 64 bits.
+#[no_mangle]
+pub extern "C" fn tikomuci_write_le_var_size_i64(out: &mut [u8], at: u64, values: &[i64]) -> Answer
+    ensures { λ r. ⌜ Writes at (countedBytes 8 (map (pattern 64) (now (values .entry)))) (now (out .entry)) (now (out .exit)) r ⌝ }
+{
+    let writer = EncodingWriter {
+        at: at as usize,
+        required_alignment: 1,
+    };
+    written(writer.write_le_var_size_i64(out, values))
+}
+
+// A count, and as many signed numbers of 32 bits.
+#[no_mangle]
+pub extern "C" fn tikomuci_write_le_var_size_i32(out: &mut [u8], at: u64, values: &[i32]) -> Answer
+    ensures { λ r. ⌜ Writes at (countedBytes 4 (map (pattern 32) (now (values .entry)))) (now (out .entry)) (now (out .exit)) r ⌝ }
+{
+    let writer = EncodingWriter {
+        at: at as usize,
+        required_alignment: 1,
+    };
+    written(writer.write_le_var_size_i32(out, values))
+}
+
+// The 64 bits of a float attribute, as a signed varint.
+#[no_mangle]
+pub extern "C" fn tikomuci_write_ap_float_f64(out: &mut [u8], at: u64, f64_bits: u64) -> Answer
+    ensures { λ r. ⌜ WritesFloat at «f64_bits» F64 (now (out .entry)) (now (out .exit)) r ⌝ }
+{
+    let writer = EncodingWriter {
+        at: at as usize,
+        required_alignment: 1,
+    };
+    written(writer.write_ap_float(out, f64_bits, FloatType::F64))
+}
+
+// A float attribute as an 8-bit float, one byte.
+#[no_mangle]
+pub extern "C" fn tikomuci_write_ap_float_f8e4m3fn(out: &mut [u8], at: u64, f64_bits: u64) -> Answer
+    ensures { λ r. ⌜ WritesFloat at «f64_bits» F8E4M3FN (now (out .entry)) (now (out .exit)) r ⌝ }
+{
+    let writer = EncodingWriter {
+        at: at as usize,
+        required_alignment: 1,
+    };
+    written(writer.write_ap_float(out, f64_bits, FloatType::F8E4M3FN))
+}
+
+// A float attribute as an 8-bit float, one byte.
+#[no_mangle]
+pub extern "C" fn tikomuci_write_ap_float_f8e5m2(out: &mut [u8], at: u64, f64_bits: u64) -> Answer
+    ensures { λ r. ⌜ WritesFloat at «f64_bits» F8E5M2 (now (out .entry)) (now (out .exit)) r ⌝ }
+{
+    let writer = EncodingWriter {
+        at: at as usize,
+        required_alignment: 1,
+    };
+    written(writer.write_ap_float(out, f64_bits, FloatType::F8E5M2))
+}
+
+// An f64, by its bits, as the nearest E4M3FN code.
+#[no_mangle]
+pub extern "C" fn tikomuci_f8e4m3fn(f64_bits: u64) -> u8
+    ensures { λ r. ⌜ E4M3FN «f64_bits» r ⌝ }
+{
+    float8::f64_to_f8e4m3fn(f64_bits)
+}
+
+// An f64, by its bits, as the nearest E5M2 code.
+#[no_mangle]
+pub extern "C" fn tikomuci_f8e5m2(f64_bits: u64) -> u8
+    ensures { λ r. ⌜ E5M2 «f64_bits» r ⌝ }
+{
+    float8::f64_to_f8e5m2(f64_bits)
 }
 
 // Replaces 4 bytes of a buffer by a number of 32 bits.
@@ -347,6 +487,15 @@ pub extern "C" fn tikomuci_read_varint(data: &[u8], at: u64) -> Answer
     num_read(reader.read_varint(data))
 }
 
+// A signed varint: `first` is its bit pattern.
+#[no_mangle]
+pub extern "C" fn tikomuci_read_signed_varint(data: &[u8], at: u64) -> Answer
+    ensures { λ r. ⌜ r ≡ signedNumber 64 (signedVarintAt (now («data» .entry)) at) ⌝ }
+{
+    let reader = Reader { pos: at as usize };
+    i64_read(reader.read_signed_varint(data))
+}
+
 // A number of 8 bits.
 #[no_mangle]
 pub extern "C" fn tikomuci_read_le_u8(data: &[u8], at: u64) -> Answer
@@ -381,6 +530,24 @@ pub extern "C" fn tikomuci_read_le_u64(data: &[u8], at: u64) -> Answer
 {
     let reader = Reader { pos: at as usize };
     num_read(reader.read_le_u64(data))
+}
+
+// A signed number of 64 bits: `first` is its bit pattern.
+#[no_mangle]
+pub extern "C" fn tikomuci_read_le_i64(data: &[u8], at: u64) -> Answer
+    ensures { λ r. ⌜ r ≡ signedNumber 64 (signedAt 8 (now («data» .entry)) at) ⌝ }
+{
+    let reader = Reader { pos: at as usize };
+    i64_read(reader.read_le_i64(data))
+}
+
+// A signed number of 32 bits: `first` is its bit pattern.
+#[no_mangle]
+pub extern "C" fn tikomuci_read_le_i32(data: &[u8], at: u64) -> Answer
+    ensures { λ r. ⌜ r ≡ signedNumber 32 (signedAt 4 (now («data» .entry)) at) ⌝ }
+{
+    let reader = Reader { pos: at as usize };
+    i32_read(reader.read_le_i32(data))
 }
 
 // A counted array: `first` is the count, and its numbers of 8 bytes stand before `second`.

@@ -21,13 +21,13 @@ remaining-requires c κs = search needs
 div-room : tie.Need-div-room
 div-room c = search needs
 
-mul-t15 : tie.Need-mul-t15
-mul-t15 c =
+mul-broken : tie.Need-mul-broken
+mul-broken c =
     let t = told-num (c .before .before .before .count .given .1) (c .before .before .before .before .before .read-varint .ensures) in
     omega (arith, items-room (c .before .before .before .before .before .before .before .args .width) _ _ _ _ _ t (c .before .remaining .ensures))
 
-add-t16 : tie.Need-add-t16
-add-t16 c =
+add-broken : tie.Need-add-broken
+add-broken c =
     let t = told-num (c .before .before .before .count .given .1) (c .before .before .before .before .before .read-varint .ensures) in
     omega (arith, items-room (c .before .before .before .before .before .before .before .args .width) _ _ _ _ _ t (c .before .remaining .ensures))
 
@@ -36,13 +36,13 @@ returns c =
     let t = told-num (c .before .before .before .count .given .1) (c .before .before .before .before .before .read-varint .ensures) in
     items-end _ _ _ _ _ _ t (c .before .remaining .ensures) (c .before .before .before .before .before .before .before .pre) (c .if1 .taken)
 
-mul-t12 : tie.Need-mul-t12
-mul-t12 c =
+mul-next : tie.Need-mul-next
+mul-next c =
     let t = told-num (c .before .before .before .count .given .1) (c .before .before .before .before .before .read-varint .ensures) in
     omega (arith, items-fit _ _ _ _ _ _ t (c .before .remaining .ensures) (c .if1 .left))
 
-add-t19 : tie.Need-add-t19
-add-t19 c =
+add-next : tie.Need-add-next
+add-next c =
     let t = told-num (c .before .before .before .count .given .1) (c .before .before .before .before .before .read-varint .ensures) in
     omega (arith, items-fit _ _ _ _ _ _ t (c .before .remaining .ensures) (c .if1 .left))
 
@@ -63,10 +63,10 @@ read-items-spec =
     enum-known-count
     remaining-requires
     div-room
-    mul-t15
-    add-t16
+    mul-broken
+    add-broken
     returns
-    mul-t12
-    add-t19
+    mul-next
+    add-next
     returns-2
     returns-3)

@@ -1,6 +1,6 @@
 -- `skip_padding` answers the place behind the padding: its loop follows the bytes still to come (`Skip`). Assumes nothing.
 use Prim.Native.Nat.{_<_}
-use native.Mathlib.Nat.{mod-lt}
+use native.Mathlib.Nat.{mod-lt, le-of-lt}
 use native.Mathlib.Omega.{arith}
 use Rattle.reading.proofs.LawsSkip.{Skip, skip-none, skip-start, skip-done, skip-short, skip-wrong, skip-more}
 use borrow.Author.Needs.{needs}
@@ -22,7 +22,7 @@ rem-padding c = search needs
 sub-padding : tie.Need-sub-padding Inv-loop μ-loop
 sub-padding c =
     let some : 0 < c .before .args .alignment = omega arith in
-    omega (arith, mod-lt (c .before .args .self .pos) some)
+    le-of-lt (mod-lt _ some)
 
 rem-padding-2 : tie.Need-rem-padding-2 Inv-loop μ-loop
 rem-padding-2 c = search needs
