@@ -1,7 +1,7 @@
 -- A float has one spelling in each type, so its writer has one result. Assumes nothing.
-use mathlib.Core.Path.{_≡_, refl, ap, _∙_}
-use Prim.Native.Nat.{ℕ}
+use mathlib.Core.Path.{_≡_, refl, ap}
 use mathlib.Core.List.{List, [], _∷_}
+use Prim.Native.Nat.{ℕ}
 use Rattle.float8.proofs.Only.{e4m3fn-only, e5m2-only}
 use Rattle.encoding.specs.Floats.{FloatBytes, as-bits, as-e4m3fn, as-e5m2, WritesFloat}
 use Rattle.encoding.specs.declared.EncodingWriter.{EncodingWriter}

@@ -1,15 +1,14 @@
--- What `put` leaves, byte by byte; what a writer answers; and that no two results of one writer differ. Assumes nothing.
-use mathlib.Core.Path.{_≡_, refl, sym, ap, _∙_, subst}
+-- What `put` leaves, byte by byte; what a writer answers; no two results of one writer differ. Assumes nothing.
+use mathlib.Core.Path.{_≡_, sym, ap, _∙_, subst}
 use mathlib.Core.Logic.{_⊎_, inl, inr}
-use Prim.Native.Nat.{ℕ, zero, suc, _+_, _-_, _*_, _/_, _%_, _^_, _≤_, _<_, max}
+use mathlib.Core.List.{List, [], _∷_, _++_, append-assoc}
+use Prim.Native.Nat.{ℕ, suc, _+_, _-_, _/_, _%_, _^_, _≤_, _<_, max}
 use native.Mathlib.Nat.{add-zero}
 use native.Mathlib.Numerals.{add-one}
 use native.Mathlib.Omega.{arith}
 use native.Mathlib.Decide.{decLe, decLt}
-use mathlib.Core.List.{List, [], _∷_, _++_, append-assoc}
 use lib.ListN.{length, replicate, getD, take, drop, set, length-append, length-set, length-drop, take-append-drop, List·getD-append}
 use lib.Seq.{take-suc-set, drop-set-lt, length-take-le, take-append-seam, drop-at, getD-take, getD-drop, getD-append-add}
-use Rattle.exact.specs.Choice.{choose}
 use Rattle.exact.specs.Fixed.{bytesOf, little}
 use Rattle.exact.proofs.LawsChoice.{choose-yes, choose-no}
 use Rattle.exact.proofs.LawsFixed.{length-bytesOf, little-bytesOf}
@@ -27,6 +26,7 @@ module _ (out : List ℕ) (at : ℕ) (bs : List ℕ) where
   unfolding put
   put-full h = choose-no (decLe (at + length bs) (length out)) _ _ (omega arith)
 
+  -- They have room or they have none.
   pub by-room : {X : Type 0} → (at + length bs ≤ length out → X) → (length out < at + length bs → X) → X
   by-room f g = elim (decLe (at + length bs) (length out)) [ yes h ↦ f h | no h ↦ g (omega arith) ]
 

@@ -1,7 +1,7 @@
--- Zigzag and the bit patterns lose nothing, once over the width; and what the code's signed operations give. Assumes nothing.
+-- Zigzag and bit patterns lose nothing, once over the width; and what the code's signed operations give. Assumes nothing.
 use mathlib.Core.Path.{_≡_, refl, sym, ap, _∙_, subst}
 use mathlib.Core.Logic.{_↔_}
-use mathlib.Core.Bool.{Bool, true, false}
+use mathlib.Core.Bool.{true, false}
 use Prim.Native.Nat.{ℕ, zero, suc, _+_, _-_, _*_, _/_, _%_, _^_, _≤_, _<_}
 use native.Mathlib.Nat.{pow-suc, one-le-pow}
 use native.Mathlib.Omega.{arith}
@@ -13,7 +13,6 @@ use borrow.Author.Tests.{lt-ltb, le-ltb, ltb-true}
 use mir.Syntax.{Width, w8, w16, w32, w64, w128}
 use mir.Val.{Fits, SFits, bits, hbits, ofZ, toZ}
 use mir.Facts.{toZ-ofZ}
-use Rattle.exact.specs.Choice.{choose}
 use Rattle.exact.proofs.LawsChoice.{choose-yes, choose-no}
 use Rattle.encoding.specs.Signed.{zigzag, unzigzag, pattern, signed}
 

@@ -1,6 +1,6 @@
 -- What a test tells that is plainly true or false. Assumes nothing.
-use mathlib.Core.Path.{_≡_, refl, sym, subst}
-use mathlib.Core.Bool.{Bool, true, false}
+use mathlib.Core.Path.{_≡_, sym, subst}
+use mathlib.Core.Bool.{true, false}
 use lib.Dec.{T}
 use Rattle.encoding.specs.Out.{Tells}
 

@@ -1,13 +1,12 @@
 -- A spelling spells one number, below 2^64; the written spelling spells its number, and no spelling of it is shorter.
 -- Assumes nothing.
-use mathlib.Core.Path.{_≡_, refl, sym, ap, _∙_, subst}
+use mathlib.Core.Path.{_≡_, sym, ap, _∙_, subst}
+use mathlib.Core.List.{List, [], _∷_}
 use Prim.Native.Nat.{ℕ, zero, suc, _+_, _*_, _/_, _%_, _^_, _≤_, _<_}
 use native.Mathlib.Omega.{arith}
 use native.Mathlib.Decide.{decLt}
 use native.Mathlib.Nat.{pow-suc, one-le-pow, mod-eq-of-lt}
-use mathlib.Core.List.{List, [], _∷_}
 use lib.ListN.{length}
-use Rattle.exact.specs.Choice.{choose}
 use Rattle.exact.proofs.LawsChoice.{choose-yes, choose-no}
 use Rattle.encoding.specs.Varint.{Digits, tenth, last, more, Spells, shortest, spelling}
 
@@ -37,6 +36,7 @@ pub shortest-more : (k v : ℕ) → 128 ≤ v → shortest (suc k) v ≡ (128 + 
 unfolding shortest
 shortest-more k v h = choose-no (decLt v 128) _ _ (omega arith)
 
+-- A number is below 128 or not.
 pub by-128 : {P : Type 0} (v : ℕ) → (v < 128 → P) → (128 ≤ v → P) → P
 by-128 v f g = elim (decLt v 128) [ yes h ↦ f h | no h ↦ g (omega arith) ]
 
@@ -75,7 +75,7 @@ shortest-least k bs v (more {k = j} {b = b} {bs = cs} {v = w} h d) =
 pub spelling-shortest : (bs : List ℕ) (v : ℕ) → Spells bs v → length (spelling v) ≤ length bs
 spelling-shortest bs v s = shortest-least 9 bs v s
 
--- The written spelling has at most ten bytes.
+-- The shortest digits are at most one more than may follow.
 pub shortest-length : (k v : ℕ) → length (shortest k v) ≤ suc k
 unfolding shortest
 shortest-length zero v = omega arith
@@ -110,9 +110,10 @@ spelling-some v h = digits-some 9 (spelling v) v (spelling-spells v h)
 pub spelling-ten : (v : ℕ) → length (spelling v) ≤ 10
 spelling-ten v = shortest-length 9 v
 
--- Their sizes.
+-- So a spelling below 128 has one byte ..
 pub spelling-size-last : (v : ℕ) → v < 128 → length (spelling v) ≡ 1
 spelling-size-last v h = ap length (spelling-last v h)
 
+-- .. and another one has one more than that of the rest.
 pub spelling-size-more : (v : ℕ) → v < 2 ^ 64 → 128 ≤ v → length (spelling v) ≡ suc (length (spelling (v / 128)))
 spelling-size-more v h l = ap length (spelling-more v h l)

@@ -1,19 +1,22 @@
 -- What the writers answer, as the code's own answers: from room found or not found, to the promise. Assumes nothing.
-use mathlib.Core.Path.{_≡_, refl, sym, ap, ap₂, _∙_, subst}
-use Prim.Native.Nat.{ℕ, _+_, _*_, _≤_}
-use mathlib.Core.List.{List, _++_, map}
+use mathlib.Core.Path.{_≡_, sym, ap, ap₂, _∙_}
+use mathlib.Core.List.{List, map}
+use Prim.Native.Nat.{ℕ, _+_, _*_, _%_, _≤_}
 use native.Mathlib.Omega.{arith}
-use lib.ListN.{length, length-append, length-map}
+use lib.ListN.{length, replicate, length-replicate, length-append, length-map}
+use Rattle.exact.specs.Padding.{gap}
+use Rattle.exact.proofs.LawsPadding.{gap-even}
+use Rattle.enums.specs.Container.{P}
 use Rattle.enums.specs.Refusals as refusals
 use Rattle.encoding.specs.Varint.{spelling}
-use Rattle.encoding.specs.Out.{Wrote, wrote, refused, put, flat, countedBytes}
-use Rattle.encoding.specs.Shown.{wroteOf, patchedOf, Puts, Writes, Patches}
+use Rattle.encoding.specs.Out.{put, flat, countedBytes}
+use Rattle.encoding.specs.Shown.{asked, wroteOf, patchedOf, Writes, Patches}
 use Rattle.encoding.specs.declared.EncodingWriter.{EncodingWriter}
 use Rattle.encoding.specs.declared.Written.{Written}
 use Rattle.encoding.specs.declared.Written.the-variants as written
 use Rattle.encoding.specs.declared.Patched.{Patched}
 use Rattle.encoding.specs.declared.Patched.the-variants as patched
-use Rattle.encoding.proofs.LawsOut.{put-append, puts-room, puts-full, puts-only}
+use Rattle.encoding.proofs.LawsOut.{put-append, puts-room, puts-full, puts-there, puts-only}
 use Rattle.encoding.proofs.LawsArray.{length-flat}
 
 -- A writer that found room for its k bytes, put them and moved behind them ..
@@ -66,11 +69,19 @@ written-one (written.Next v) (written.Refused n) e = let z : _≡_ {A = ℕ} 0 1
 written-one (written.Refused n) (written.Next w) e = let z : _≡_ {A = ℕ} 0 1 = cc in absurd (omega (arith, z))
 written-one (written.Refused m) (written.Refused n) e = let a : m ≡ n = cc in ap written.Refused a
 
+-- So is a patch's.
 pub patched-one : (r s : Patched) → patchedOf r ≡ patchedOf s → r ≡ s
 patched-one (patched.Next v) (patched.Next w) e = let a : v ≡ w = cc in ap patched.Next a
 patched-one (patched.Next v) (patched.Refused n) e = let z : _≡_ {A = ℕ} 0 1 = cc in absurd (omega (arith, z))
 patched-one (patched.Refused n) (patched.Next w) e = let z : _≡_ {A = ℕ} 0 1 = cc in absurd (omega (arith, z))
 patched-one (patched.Refused m) (patched.Refused n) e = let a : m ≡ n = cc in ap patched.Refused a
+
+-- An accepted `align_to` ends at a multiple of the alignment.
+pub aligned : (w : EncodingWriter) (a : ℕ) {v : EncodingWriter} {out out' : List ℕ} → 2 ≤ a →
+    Writes (asked w a) (replicate (gap a (w .at)) P) out out' (written.Next v) → v .at % a ≡ 0
+aligned w a h p =
+    let e = puts-there p .1 ∙ ap (λ (n : ℕ). w .at + n) (length-replicate (gap a (w .at)) P) in
+    rw e (gap-even a (w .at) h)
 
 -- Any two results that one writer's contract allows are equal, answer and output: of every writer, whatever its bytes ..
 pub writes-only : {w : EncodingWriter} {bs out out' out'' : List ℕ} {r s : Written} → Writes w bs out out' r → Writes w bs out out'' s →

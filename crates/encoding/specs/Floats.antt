@@ -1,6 +1,6 @@
 -- How an f64 attribute is written in a float type (document 01, "Eight-bit floats").
-use Prim.Native.Nat.{ℕ}
 use mathlib.Core.List.{List, [], _∷_}
+use Prim.Native.Nat.{ℕ}
 use Rattle.float8.specs.Formats.{E4M3FN, E5M2}
 use Rattle.encoding.specs.Varint.{spelling}
 use Rattle.encoding.specs.Signed.{zigzag, signed}

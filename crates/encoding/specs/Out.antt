@@ -1,10 +1,10 @@
 -- What a writer leaves in the output that it was lent, and what it answers (document 01, "Refusal numbers": primitive
 -- writers give 11, also for a place past the output; on success only the result's own bytes change).
-use Prim.Native.Nat.{ℕ, _+_, _*_, _≤_, _<_, max}
-use native.Mathlib.Decide.{decLe, decLt}
 use mathlib.Core.Path.{_≡_}
 use mathlib.Core.Bool.{Bool, true, false}
 use mathlib.Core.List.{List, [], _∷_, _++_}
+use Prim.Native.Nat.{ℕ, _+_, _≤_, max}
+use native.Mathlib.Decide.{decLe, decLt}
 use lib.ListN.{length, take, drop}
 use Rattle.exact.specs.Choice.{choose}
 use Rattle.exact.specs.Fixed.{bytesOf}

@@ -1,7 +1,7 @@
 -- What the answers of the code mean, and the one promise that every writer makes through it.
 use mathlib.Core.Path.{_≡_}
-use Prim.Native.Nat.{ℕ}
 use mathlib.Core.List.{List}
+use Prim.Native.Nat.{ℕ}
 use Rattle.enums.specs.Refusals as refusals
 use Rattle.encoding.specs.Out.{Wrote, wrote, refused, put, after, required}
 use Rattle.encoding.specs.declared.EncodingWriter.{EncodingWriter}

@@ -1,4 +1,4 @@
--- Signed numbers (document 01, "Numbers on the wire" and "The sheet"): zigzag on the wire, and the bit pattern of a width.
+-- Signed numbers (document 01, "Numbers on the wire" and "The sheet"): zigzag, and the bit pattern in a width.
 use Prim.Native.Nat.{ℕ, _+_, _-_, _*_, _/_, _%_, _^_}
 use native.Mathlib.Decide.{decLt, ℕ-discrete}
 use lib.IntN.{ℤ, pos, negsuc}

@@ -1,8 +1,8 @@
 -- How a number is spelt as a varint (document 01, "Numbers on the wire"): seven bits a byte, low first, the top bit
 -- means more. Every spelling is allowed, also a longer one such as 80 00; the writer uses the shortest.
+use mathlib.Core.List.{List, [], _∷_}
 use Prim.Native.Nat.{ℕ, zero, suc, _+_, _*_, _/_, _%_, _≤_, _<_}
 use native.Mathlib.Decide.{decLt}
-use mathlib.Core.List.{List, [], _∷_}
 use Rattle.exact.specs.Choice.{choose}
 
 -- The bytes of a number of which k more may follow before the tenth: a byte below 128 ends it, another one gives its low

@@ -8,8 +8,7 @@ ghost use Rattle.exact.specs.Fixed.{bytesOf};
 ghost use Rattle.exact.specs.Padding.{gap};
 ghost use Rattle.enums.specs.Container.{P};
 ghost use Rattle.encoding.specs.Varint.{spelling};
-ghost use Rattle.encoding.specs.Signed as Signed;
-ghost use Rattle.encoding.specs.Signed.{pattern, signed};
+ghost use Rattle.encoding.specs.Signed.{pattern, signed, zigzag};
 ghost use Rattle.encoding.specs.Out.{put, Tells, flat, countedBytes};
 ghost use Rattle.encoding.specs.Shown.{Writes, Patches, asked};
 ghost use Rattle.encoding.specs.Floats.{WritesFloat};
@@ -84,7 +83,7 @@ pub fn i32_of_bits(bits: u32) -> i32
 
 // The number that stands for a signed one in a varint: 0, -1, 1, -2, .. become 0, 1, 2, 3, ..
 fn zigzag(value: i64) -> u64
-    ensures { λ r. ⌜ r ≡ Signed.zigzag value ⌝ }
+    ensures { λ r. ⌜ r ≡ zigzag value ⌝ }
 {
     if value < 0 {
         2 * ((!value) as u64) + 1
@@ -126,8 +125,8 @@ fn varint_has_room(len: usize, at: usize, value: u64) -> bool
     has_room(len, at, varint_size(value))
 }
 
-// Whether a counted array has room: the count and then count numbers of `width` bytes. Their size could wrap, so what is
-// left behind the count is divided.
+// Whether a counted array has room: the count, then as many numbers of `width` bytes. Their size could wrap, so the room
+// behind the count is divided instead.
 fn array_has_room(len: usize, at: usize, count: usize, width: usize) -> bool
     requires { ⌜ 0 < width ⌝ }
     ensures { λ r. ⌜ Tells (at + (length (spelling count) + count * width) ≤ len) r ⌝ }
@@ -137,6 +136,17 @@ fn array_has_room(len: usize, at: usize, count: usize, width: usize) -> bool
         return count <= (len - at - head) / width;
     }
     false
+}
+
+// How many bytes of padding take a place to a multiple of an alignment.
+fn padding_to(alignment: u64, at: usize) -> usize
+    ensures { λ r. ⌜ r ≡ gap alignment at ⌝ }
+{
+    if alignment < 2 {
+        return 0;
+    }
+    let over = at as u64 % alignment;
+    ((alignment - over) % alignment) as usize
 }
 
 // Stores a run of bytes.
@@ -274,7 +284,7 @@ impl EncodingWriter {
 
     // Write a signed variable-length integer using zigzag encoding.
     pub fn write_signed_varint(self, out: &mut [u8], value: i64) -> Written
-        ensures { λ r. ⌜ Writes self (spelling (Signed.zigzag value)) (now (out .entry)) (now (out .exit)) r ⌝ }
+        ensures { λ r. ⌜ Writes self (spelling (zigzag value)) (now (out .entry)) (now (out .exit)) r ⌝ }
     {
         self.write_varint(out, zigzag(value))
     }
@@ -420,17 +430,6 @@ impl EncodingWriter {
         }
         self
     }
-}
-
-// How many bytes of padding take a place to a multiple of an alignment.
-fn padding_to(alignment: u64, at: usize) -> usize
-    ensures { λ r. ⌜ r ≡ gap alignment at ⌝ }
-{
-    if alignment < 2 {
-        return 0;
-    }
-    let over = at as u64 % alignment;
-    ((alignment - over) % alignment) as usize
 }
 
 // Patch the lowest `width` bytes of a number into the buffer, the lowest first.

@@ -1,16 +1,13 @@
 -- `array_has_room` answers whether a counted array has room. Assumes nothing.
-use mathlib.Core.Path.{_≡_, sym, ap, _∙_, subst}
-use mathlib.Core.Bool.{Bool, true, false}
+use mathlib.Core.Path.{_≡_}
 use Prim.Native.Nat.{ℕ, _+_, _-_, _*_, _/_, _≤_, _<_}
 use native.Mathlib.Nat.{le-div-iff-mul-le}
 use native.Mathlib.Omega.{arith}
 use lib.Dec.{leb}
-use lib.ListN.{length}
 use borrow.Author.Tests.{leb-true, leb-false}
-use Rattle.encoding.specs.Varint.{spelling}
+use borrow.Author.Needs.{needs}
 use Rattle.encoding.specs.Out.{Tells}
 use Rattle.encoding.proofs.LawsTells.{tells-no}
-use borrow.Author.Needs.{needs}
 use Rattle.encoding.proofs.array_has_room.Statement.{statement}
 use Rattle.encoding.proofs.array_has_room.Tie as tie
 

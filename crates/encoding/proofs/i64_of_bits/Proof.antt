@@ -1,5 +1,4 @@
 -- `i64_of_bits` gives the number that has a bit pattern. Assumes nothing.
-use native.Mathlib.Omega.{arith}
 use borrow.Author.Needs.{needs}
 use mir.Syntax.{w64}
 use Rattle.encoding.proofs.LawsSigned.{toZ-signed, not-fits, not-not-signed}

@@ -1,11 +1,9 @@
 -- `patch_le` patches a number, once over the width. Assumes nothing.
+use native.Mathlib.Omega.{arith}
+use borrow.Author.Needs.{needs}
+use Rattle.exact.proofs.LawsFixed.{length-bytesOf}
 use Rattle.enums.specs.Refusals.{notThere}
 use Rattle.encoding.proofs.LawsOut.{puts-room, puts-full}
-use mathlib.Core.Path.{_≡_, refl, sym, ap, _∙_}
-use native.Mathlib.Omega.{arith}
-use Rattle.encoding.proofs.LawsWritten.{writes-room, writes-full}
-use Rattle.exact.proofs.LawsFixed.{length-bytesOf}
-use borrow.Author.Needs.{needs}
 use Rattle.encoding.proofs.patch_le.Statement.{statement}
 use Rattle.encoding.proofs.patch_le.Tie as tie
 

@@ -1,6 +1,6 @@
 -- `put_le` puts a number, once over the width. Assumes nothing.
-use mathlib.Core.Path.{_≡_, refl, sym, ap, _∙_}
-use mathlib.Core.List.{List, []}
+use mathlib.Core.Path.{_≡_, refl, sym, _∙_}
+use mathlib.Core.List.{List}
 use Prim.Native.Nat.{ℕ, suc, _+_, _-_, _/_, _%_, _≤_, _<_}
 use native.Mathlib.Nat.{add-zero, sub-zero}
 use native.Mathlib.Omega.{arith}
@@ -15,17 +15,20 @@ use Rattle.encoding.proofs.put_le.Tie as tie
 
 abbrev Inv-loop : tie.InvT-loop
 Inv-loop out₀ at value width rest₀ i₀ out rest i =
-    (put out₀ at (bytesOf width value) ≡ put out (at + i) (bytesOf (width - i) rest)) × (i ≤ width) × (length out ≡ length out₀)
+    (put out₀ at (bytesOf width value) ≡ put out (at + i) (bytesOf (width - i) rest)) × (i ≤ width) ×
+    (length out ≡ length out₀)
 
 abbrev μ-loop : tie.MeasureT-loop
 μ-loop out₀ at value width rest₀ i₀ out rest i = width - i
 
 turn : (out : List ℕ) (at i width rest : ℕ) → i < width → at + width ≤ length out →
-    put out (at + i) (bytesOf (width - i) rest) ≡ put (set out (at + i) (rest % 256)) (at + (i + 1)) (bytesOf (width - (i + 1)) (rest / 256))
+    put out (at + i) (bytesOf (width - i) rest) ≡
+    put (set out (at + i) (rest % 256)) (at + (i + 1)) (bytesOf (width - (i + 1)) (rest / 256))
 turn out at i width rest h r =
     let w : width - i ≡ suc (width - (i + 1)) = omega arith in
     let n : length (bytesOf (width - i) rest) ≡ width - i = length-bytesOf (width - i) rest in
-    put-next out (at + i) (rest % 256) (bytesOf (width - (i + 1)) (rest / 256)) (at + (i + 1)) (bytesOf-next (width - (i + 1)) rest w) (omega arith) (omega arith)
+    put-next out (at + i) (rest % 256) (bytesOf (width - (i + 1)) (rest / 256)) (at + (i + 1))
+    (bytesOf-next (width - (i + 1)) rest w) (omega arith) (omega arith)
 
 done : (out : List ℕ) (at i width rest : ℕ) → width ≤ i → put out at (bytesOf (width - i) rest) ≡ out
 unfolding bytesOf

@@ -1,11 +1,12 @@
 -- `put_le_i64s` puts the numbers of an array. Assumes nothing.
 use mathlib.Core.Path.{_≡_, refl, sym, ap, _∙_}
 use mathlib.Core.List.{map}
-use Prim.Native.Nat.{ℕ, _+_, _-_, _*_, _≤_}
+use Prim.Native.Nat.{_+_, _-_, _*_, _≤_}
 use native.Mathlib.Nat.{add-zero}
 use native.Mathlib.Omega.{arith}
 use lib.ListN.{length, getD, drop}
 use lib.IntN.{pos}
+use borrow.Author.Needs.{needs}
 use mir.Syntax.{w64}
 use mir.Val.{SFits}
 use mir.Facts.{toZ-ofZ}
@@ -13,13 +14,13 @@ use Rattle.encoding.specs.Signed.{pattern}
 use Rattle.encoding.specs.Out.{put, flat}
 use Rattle.encoding.proofs.LawsOut.{length-put}
 use Rattle.encoding.proofs.LawsArray.{array-turn, array-done}
-use borrow.Author.Needs.{needs}
 use Rattle.encoding.proofs.put_le_i64s.Statement.{statement}
 use Rattle.encoding.proofs.put_le_i64s.Tie as tie
 
 abbrev Inv-loop : tie.InvT-loop
 Inv-loop out₀ at values i₀ out i =
-    (put out₀ at (flat 8 (map (pattern 64) values)) ≡ put out (at + i * 8) (flat 8 (map (pattern 64) (drop i values)))) ×
+    (put out₀ at (flat 8 (map (pattern 64) values)) ≡
+    put out (at + i * 8) (flat 8 (map (pattern 64) (drop i values)))) ×
     (i ≤ length values) × (length out ≡ length out₀)
 
 abbrev μ-loop : tie.MeasureT-loop
@@ -57,10 +58,12 @@ loop-again c =
     let p = c .before .before in
     let l = p .before .before .before .before .before .loop in
     let a = p .before .before .before .before .before .before .before .args in
-    let f : SFits w64 (getD (a .values .now) (l .i) (pos 0)) = record { sfits = p .before .before .bits-of-i64-arg .given } in
+    let t = p .before .before .before .before .loop-test .taken in
+    let f : SFits w64 (getD (a .values .now) (l .i) (pos 0)) =
+    record { sfits = p .before .before .bits-of-i64-arg .given } in
     let e = p .before .bits-of-i64 .ensures ∙ ap (pattern 64) (toZ-ofZ f) in
     let r : a .at + length (a .values .now) * 8 ≤ length (l .out) = omega arith in (
-      l .inv .0 ∙ array-turn 8 (pattern 64) _ _ _ _ _ _ (pos 0) (p .before .before .before .before .loop-test .taken) r e (p .put-le .ensures),
+      l .inv .0 ∙ array-turn 8 (pattern 64) _ _ _ _ _ _ (pos 0) t r e (p .put-le .ensures),
       omega arith,
       ap length (p .put-le .ensures) ∙ length-put _ _ _ ∙ l .inv .2,
     )

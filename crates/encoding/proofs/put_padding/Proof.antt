@@ -1,6 +1,6 @@
 -- `put_padding` puts padding. Assumes nothing.
-use mathlib.Core.Path.{_≡_, refl, sym, ap, _∙_}
-use mathlib.Core.List.{List, []}
+use mathlib.Core.Path.{_≡_, refl, sym, _∙_}
+use mathlib.Core.List.{List}
 use Prim.Native.Nat.{ℕ, suc, _+_, _-_, _≤_, _<_}
 use native.Mathlib.Nat.{add-zero, sub-zero}
 use native.Mathlib.Omega.{arith}
@@ -14,7 +14,8 @@ use Rattle.encoding.proofs.put_padding.Tie as tie
 
 abbrev Inv-loop : tie.InvT-loop
 Inv-loop out₀ at n i₀ out i =
-    (put out₀ at (replicate n P) ≡ put out (at + i) (replicate (n - i) P)) × (i ≤ n) × (length out ≡ length out₀)
+    (put out₀ at (replicate n P) ≡ put out (at + i) (replicate (n - i) P)) × (i ≤ n) ×
+    (length out ≡ length out₀)
 
 abbrev μ-loop : tie.MeasureT-loop
 μ-loop out₀ at n i₀ out i = n - i
@@ -24,7 +25,8 @@ turn : (out : List ℕ) (at i n : ℕ) → i < n → at + n ≤ length out →
 turn out at i n h r =
     let w : n - i ≡ suc (n - (i + 1)) = omega arith in
     let l : length (replicate (n - i) P) ≡ n - i = length-replicate (n - i) P in
-    put-next out (at + i) P (replicate (n - (i + 1)) P) (at + (i + 1)) (replicate-next (n - (i + 1)) P w) (omega arith) (omega arith)
+    put-next out (at + i) P (replicate (n - (i + 1)) P) (at + (i + 1))
+    (replicate-next (n - (i + 1)) P w) (omega arith) (omega arith)
 
 done : (out : List ℕ) (at i n : ℕ) → n ≤ i → put out at (replicate (n - i) P) ≡ out
 done out at i n h = let z : n - i ≡ 0 = omega arith in rw z (put-nil out at)

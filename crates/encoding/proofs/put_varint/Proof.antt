@@ -1,7 +1,7 @@
 -- `put_varint` puts the shortest spelling, digit by digit. Assumes nothing.
-use mathlib.Core.Path.{_≡_, refl, sym, ap, _∙_}
+use mathlib.Core.Path.{_≡_, refl, sym, _∙_}
 use mathlib.Core.List.{List, []}
-use Prim.Native.Nat.{ℕ, suc, _+_, _/_, _%_, _^_, _≤_, _<_}
+use Prim.Native.Nat.{ℕ, _+_, _/_, _%_, _^_, _≤_, _<_}
 use native.Mathlib.Omega.{arith}
 use lib.ListN.{length, set, length-set}
 use borrow.Author.Needs.{needs}
@@ -14,7 +14,8 @@ use Rattle.encoding.proofs.put_varint.Tie as tie
 
 abbrev Inv-loop : tie.InvT-loop
 Inv-loop out₀ at value rest₀ i₀ out rest i =
-    (put out₀ at (spelling value) ≡ put out i (spelling rest)) × (i + length (spelling rest) ≡ at + length (spelling value)) × (rest ≤ value) × (length out ≡ length out₀)
+    (put out₀ at (spelling value) ≡ put out i (spelling rest)) ×
+    (i + length (spelling rest) ≡ at + length (spelling value)) × (rest ≤ value) × (length out ≡ length out₀)
 
 abbrev μ-loop : tie.MeasureT-loop
 μ-loop out₀ at value rest₀ i₀ out rest i = rest
@@ -78,7 +79,8 @@ returns : tie.Need-returns Inv-loop μ-loop
 returns c =
     let l = c .before .loop in
     let r : l .i + length (spelling (l .rest)) ≤ length (l .out) = omega arith in
-    (omega (arith, spelling-size-last (l .rest) (c .loop-test .left)), sym (l .inv .0 ∙ done _ _ _ (c .loop-test .left) r))
+    let t = c .loop-test .left in
+    (omega (arith, spelling-size-last (l .rest) t), sym (l .inv .0 ∙ done _ _ _ t r))
 
 pub put-varint-spec : {M : Type 1} → statement M
 put-varint-spec =

@@ -1,15 +1,11 @@
 -- `varint_has_room` answers whether the shortest spelling has room. Assumes nothing.
 use mathlib.Core.Path.{subst}
-use Prim.Native.Nat.{ℕ, _+_}
-use Rattle.encoding.specs.Out.{Tells}
-use mathlib.Core.Path.{_≡_, refl, sym, ap, _∙_}
+use Prim.Native.Nat.{ℕ, _+_, _≤_}
 use native.Mathlib.Omega.{arith}
-use Prim.Native.Nat.{_≤_}
-use lib.ListN.{length}
-use Rattle.encoding.specs.Varint.{spelling}
+use borrow.Author.Needs.{needs}
+use Rattle.encoding.specs.Out.{Tells}
 use Rattle.encoding.proofs.LawsTells.{tells-yes}
 use Rattle.encoding.proofs.LawsVarint.{spelling-ten}
-use borrow.Author.Needs.{needs}
 use Rattle.encoding.proofs.varint_has_room.Statement.{statement}
 use Rattle.encoding.proofs.varint_has_room.Tie as tie
 

@@ -1,7 +1,10 @@
 -- `align_to` pads to the alignment and remembers it. Assumes nothing.
 use mathlib.Core.List.{List}
+use mathlib.Core.Path.{_≡_, sym, ap, _∙_}
 use Prim.Native.Nat.{ℕ, _+_, _≤_}
+use native.Mathlib.Omega.{arith}
 use lib.ListN.{length, replicate, length-replicate}
+use borrow.Author.Needs.{needs}
 use Rattle.exact.specs.Padding.{gap}
 use Rattle.enums.specs.Container.{P}
 use Rattle.encoding.specs.Out.{put}
@@ -9,10 +12,7 @@ use Rattle.encoding.specs.Shown.{Writes, asked}
 use Rattle.encoding.specs.declared.EncodingWriter.{EncodingWriter}
 use Rattle.encoding.specs.declared.Written.{Written}
 use Rattle.encoding.specs.declared.Written.the-variants.{Next}
-use mathlib.Core.Path.{_≡_, refl, sym, ap, _∙_}
-use native.Mathlib.Omega.{arith}
 use Rattle.encoding.proofs.LawsWritten.{writes-room, writes-full}
-use borrow.Author.Needs.{needs}
 use Rattle.encoding.proofs.EncodingWriter.align_to.Statement.{statement}
 use Rattle.encoding.proofs.EncodingWriter.align_to.Tie as tie
 
@@ -52,13 +52,15 @@ returns c =
     let p = c .before .before .before .before in
     let h = p .before .before .before .has-room .ensures .holds (p .before .before .if1 .taken) in
     let a = p .before .before .before .before .before .before .args in
-    padded (a .self) (a .alignment) (p .before .before .before .before .padding-to .ensures) (c .before .asked .ensures) h (p .put-padding .ensures) (c .moved .ensures)
+    padded (a .self) (a .alignment) (p .before .before .before .before .padding-to .ensures) (c .before .asked .ensures) h
+    (p .put-padding .ensures) (c .moved .ensures)
 
 returns-2 : tie.Need-returns-2
 returns-2 c =
     let a = c .before .before .before .before .args in
     let e = c .before .before .padding-to .ensures in
-    writes-full (asked (a .self) (a .alignment)) _ (length-replicate _ P ∙ sym e) (c .before .has-room .ensures .fails (c .if1 .left))
+    writes-full (asked (a .self) (a .alignment)) _ (length-replicate _ P ∙ sym e)
+    (c .before .has-room .ensures .fails (c .if1 .left))
 
 pub align-to-spec : {M : Type 1} → statement M
 align-to-spec =

@@ -1,5 +1,5 @@
 -- `asked` keeps the largest alignment of 2 or more. Assumes nothing.
-use mathlib.Core.Path.{_≡_, refl, sym, ap, _∙_}
+use mathlib.Core.Path.{_≡_}
 use Prim.Native.Nat.{ℕ, _≤_, _<_}
 use native.Mathlib.Nat.{max-eq-left, max-eq-right, le-of-lt}
 use Rattle.encoding.specs.declared.EncodingWriter.{EncodingWriter}

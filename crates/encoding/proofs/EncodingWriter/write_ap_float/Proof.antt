@@ -1,24 +1,23 @@
 -- `write_ap_float` writes an f64 in a float type. Assumes nothing.
-use mathlib.Core.Path.{_≡_, sym, ap, _∙_}
+use mathlib.Core.Path.{_≡_, ap, _∙_}
+use mathlib.Core.List.{List}
 use Prim.Native.Nat.{ℕ, _^_, _<_}
-use mathlib.Core.List.{List, [], _∷_}
 use lib.Dec.{lit≤}
 use lib.IntN.{ℤ}
+use borrow.Author.Needs.{needs}
 use mir.Syntax.{w64}
 use mir.Val.{SFits, toZ, ofZ}
 use mir.Facts.{toZ-ofZ}
-use Rattle.float8.specs.Formats.{E4M3FN, E5M2}
 use Rattle.encoding.specs.Varint.{spelling}
 use Rattle.encoding.specs.Signed.{zigzag, signed}
 use Rattle.encoding.specs.Shown.{Writes}
 use Rattle.encoding.specs.Floats.{FloatBytes, as-bits, as-e4m3fn, as-e5m2, WritesFloat}
 use Rattle.encoding.specs.declared.EncodingWriter.{EncodingWriter}
 use Rattle.encoding.specs.declared.FloatType.{FloatType}
-use Rattle.encoding.specs.declared.FloatType.the-variants.{F64, F8E4M3FN, F8E5M2}
+use Rattle.encoding.specs.declared.FloatType.the-variants.{F64}
 use Rattle.encoding.specs.declared.Written.{Written}
 use Rattle.encoding.proofs.LawsSigned.{signed-fits}
 use Rattle.encoding.proofs.LawsOut.{puts-as}
-use borrow.Author.Needs.{needs}
 use Rattle.encoding.proofs.EncodingWriter.write_ap_float.Statement.{statement}
 use Rattle.encoding.proofs.EncodingWriter.write_ap_float.Tie as tie
 
@@ -27,8 +26,8 @@ module _ {w : EncodingWriter} {bits : ℕ} {ty : FloatType} {out out' : List ℕ
   told bs s h = record { bytes = bs; spelt = s; written = h }
 
   -- What the machine hands on of a signed number that it has just made.
-  in-bits : (z : ℤ) → bits < 2 ^ 64 → ty ≡ F64 → z ≡ signed 64 bits → Writes w (spelling (zigzag (toZ w64 (ofZ w64 z)))) out out' r →
-      WritesFloat w bits ty out out' r
+  in-bits : (z : ℤ) → bits < 2 ^ 64 → ty ≡ F64 → z ≡ signed 64 bits →
+      Writes w (spelling (zigzag (toZ w64 (ofZ w64 z)))) out out' r → WritesFloat w bits ty out out' r
   in-bits z b t e h =
       let f : SFits w64 (signed 64 bits) = record { sfits = signed-fits 64 (lit≤ tt) bits b } in
       let q : toZ w64 (ofZ w64 z) ≡ signed 64 bits = ap (λ (x : ℤ). toZ w64 (ofZ w64 x)) e ∙ toZ-ofZ f in
@@ -65,19 +64,26 @@ same-length : tie.Need-same-length
 same-length c = search needs
 
 returns : tie.Need-returns
-returns c = in-bits _ (c .before .before .before .before .before .before .before .before .fits .bits .fits) (c .before .before .before .before .before .enum-told .given .1) (c .before .before .before .i64-of-bits .ensures) (c .before .before .write-signed-varint .ensures)
+returns c =
+    let p = c .before .before in
+    in-bits _ (p .before .before .before .before .before .before .fits .bits .fits) (p .before .before .before .enum-told .given .1) (p .before .i64-of-bits .ensures)
+    (p .write-signed-varint .ensures)
 
 same-length-2 : tie.Need-same-length-2
 same-length-2 c = search needs
 
 returns-2 : tie.Need-returns-2
-returns-2 c = told _ (rw (c .before .before .before .before .before .enum-told2 .given .1) (as-e4m3fn (c .before .before .before .f64-to-f8e4m3fn .ensures))) (c .before .before .write-byte .ensures)
+returns-2 c =
+    let p = c .before .before in
+    told _ (rw (p .before .before .before .enum-told2 .given .1) (as-e4m3fn (p .before .f64-to-f8e4m3fn .ensures))) (p .write-byte .ensures)
 
 same-length-3 : tie.Need-same-length-3
 same-length-3 c = search needs
 
 returns-3 : tie.Need-returns-3
-returns-3 c = told _ (rw (c .before .before .before .before .before .enum-told3 .given .1) (as-e5m2 (c .before .before .before .f64-to-f8e5m2 .ensures))) (c .before .before .write-byte2 .ensures)
+returns-3 c =
+    let p = c .before .before in
+    told _ (rw (p .before .before .before .enum-told3 .given .1) (as-e5m2 (p .before .f64-to-f8e5m2 .ensures))) (p .write-byte2 .ensures)
 
 pub write-ap-float-spec : {M : Type 1} → statement M
 write-ap-float-spec =

@@ -1,8 +1,8 @@
 -- `write_bytes` writes a run of bytes. Assumes nothing.
-use mathlib.Core.Path.{_≡_, refl, sym, ap, _∙_}
+use mathlib.Core.Path.{refl}
 use native.Mathlib.Omega.{arith}
-use Rattle.encoding.proofs.LawsWritten.{writes-room, writes-full}
 use borrow.Author.Needs.{needs}
+use Rattle.encoding.proofs.LawsWritten.{writes-room, writes-full}
 use Rattle.encoding.proofs.EncodingWriter.write_bytes.Statement.{statement}
 use Rattle.encoding.proofs.EncodingWriter.write_bytes.Tie as tie
 
@@ -28,7 +28,8 @@ returns c =
     writes-room (p .before .before .before .before .before .before .args .self) _ refl h (p .put-bytes .ensures) (c .moved .ensures)
 
 returns-2 : tie.Need-returns-2
-returns-2 c = writes-full (c .before .before .before .before .args .self) _ refl (c .before .has-room .ensures .fails (c .if1 .left))
+returns-2 c =
+    writes-full (c .before .before .before .before .args .self) _ refl (c .before .has-room .ensures .fails (c .if1 .left))
 
 pub write-bytes-spec : {M : Type 1} → statement M
 write-bytes-spec =

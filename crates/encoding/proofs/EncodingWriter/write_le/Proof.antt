@@ -1,9 +1,8 @@
 -- `write_le` writes a number, once over the width. Assumes nothing.
-use mathlib.Core.Path.{_≡_, refl, sym, ap, _∙_}
 use native.Mathlib.Omega.{arith}
-use Rattle.encoding.proofs.LawsWritten.{writes-room, writes-full}
-use Rattle.exact.proofs.LawsFixed.{length-bytesOf}
 use borrow.Author.Needs.{needs}
+use Rattle.exact.proofs.LawsFixed.{length-bytesOf}
+use Rattle.encoding.proofs.LawsWritten.{writes-room, writes-full}
 use Rattle.encoding.proofs.EncodingWriter.write_le.Statement.{statement}
 use Rattle.encoding.proofs.EncodingWriter.write_le.Tie as tie
 
@@ -29,7 +28,8 @@ returns c =
     writes-room (p .before .before .before .before .before .args .self) _ (length-bytesOf _ _) h (p .put-le .ensures) (c .moved .ensures)
 
 returns-2 : tie.Need-returns-2
-returns-2 c = writes-full (c .before .before .before .args .self) _ (length-bytesOf _ _) (c .before .has-room .ensures .fails (c .if1 .left))
+returns-2 c =
+    writes-full (c .before .before .before .args .self) _ (length-bytesOf _ _) (c .before .has-room .ensures .fails (c .if1 .left))
 
 pub write-le-spec : {M : Type 1} → statement M
 write-le-spec =

@@ -1,8 +1,8 @@
 -- `write_le_i32` writes the bit pattern. Assumes nothing.
 use mathlib.Core.Path.{ap, _∙_}
 use borrow.Author.Needs.{needs}
-use Rattle.exact.specs.Fixed.{bytesOf}
 use mir.Facts.{toZ-ofZ}
+use Rattle.exact.specs.Fixed.{bytesOf}
 use Rattle.encoding.specs.Signed.{pattern}
 use Rattle.encoding.proofs.LawsOut.{puts-as}
 use Rattle.encoding.proofs.EncodingWriter.write_le_i32.Statement.{statement}
@@ -18,7 +18,10 @@ same-length : tie.Need-same-length
 same-length c = search needs
 
 returns : tie.Need-returns
-returns c = puts-as (ap (bytesOf 4) (c .before .before .before .bits-of-i32 .ensures ∙ ap (pattern 32) (toZ-ofZ (c .before .before .before .before .before .before .fits .value)))) (c .before .before .write-le-u32 .ensures)
+returns c =
+    let p = c .before .before in
+    let e = p .before .bits-of-i32 .ensures ∙ ap (pattern 32) (toZ-ofZ (p .before .before .before .before .fits .value)) in
+    puts-as (ap (bytesOf 4) e) (p .write-le-u32 .ensures)
 
 pub write-le-i32-spec : {M : Type 1} → statement M
 write-le-i32-spec =

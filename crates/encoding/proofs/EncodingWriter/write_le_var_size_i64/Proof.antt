@@ -2,10 +2,10 @@
 use mathlib.Core.Path.{ap, _∙_}
 use native.Mathlib.Omega.{arith}
 use lib.ListN.{length}
+use borrow.Author.Needs.{needs}
 use Rattle.encoding.specs.Signed.{pattern}
 use Rattle.encoding.proofs.LawsOut.{length-put}
 use Rattle.encoding.proofs.LawsWritten.{array-room, array-full}
-use borrow.Author.Needs.{needs}
 use Rattle.encoding.proofs.EncodingWriter.write_le_var_size_i64.Statement.{statement}
 use Rattle.encoding.proofs.EncodingWriter.write_le_var_size_i64.Tie as tie
 
@@ -40,7 +40,8 @@ returns c =
     let p = c .before .before .before .before .before .before .before in
     let h = p .before .before .before .array-has-room .ensures .holds (p .before .before .if1 .taken) in
     let a = p .before .before .before .before .before .args in
-    array-room 8 (pattern 64) (a .values .now) (a .self) h (p .put-varint .ensures .0) (p .put-varint .ensures .1) (c .before .before .before .put-le-i64s .ensures) (c .moved .ensures)
+    array-room 8 (pattern 64) (a .values .now) (a .self) h (p .put-varint .ensures .0) (p .put-varint .ensures .1)
+    (c .before .before .before .put-le-i64s .ensures) (c .moved .ensures)
 
 returns-2 : tie.Need-returns-2
 returns-2 c =

@@ -1,8 +1,8 @@
 -- `write_signed_varint` writes the zigzag. Assumes nothing.
 use mathlib.Core.Path.{ap, _∙_}
 use borrow.Author.Needs.{needs}
-use Rattle.encoding.specs.Varint.{spelling}
 use mir.Facts.{toZ-ofZ}
+use Rattle.encoding.specs.Varint.{spelling}
 use Rattle.encoding.specs.Signed.{zigzag}
 use Rattle.encoding.proofs.LawsOut.{puts-as}
 use Rattle.encoding.proofs.EncodingWriter.write_signed_varint.Statement.{statement}
@@ -18,7 +18,10 @@ same-length : tie.Need-same-length
 same-length c = search needs
 
 returns : tie.Need-returns
-returns c = puts-as (ap spelling (c .before .before .before .zigzag .ensures ∙ ap zigzag (toZ-ofZ (c .before .before .before .before .before .before .fits .value)))) (c .before .before .write-varint .ensures)
+returns c =
+    let p = c .before .before in
+    let e = p .before .zigzag .ensures ∙ ap zigzag (toZ-ofZ (p .before .before .before .before .fits .value)) in
+    puts-as (ap spelling e) (p .write-varint .ensures)
 
 pub write-signed-varint-spec : {M : Type 1} → statement M
 write-signed-varint-spec =

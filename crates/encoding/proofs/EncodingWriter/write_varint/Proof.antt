@@ -1,10 +1,9 @@
 -- `write_varint` writes the shortest spelling. Assumes nothing.
+use mathlib.Core.Path.{refl, ap, _∙_}
 use Prim.Native.Nat.{ℕ}
-use Rattle.encoding.specs.declared.Written.the-variants.{Next}
-use mathlib.Core.Path.{_≡_, refl, sym, ap, _∙_}
-use native.Mathlib.Omega.{arith}
-use Rattle.encoding.proofs.LawsWritten.{writes-room, writes-full}
 use borrow.Author.Needs.{needs}
+use Rattle.encoding.specs.declared.Written.the-variants.{Next}
+use Rattle.encoding.proofs.LawsWritten.{writes-room, writes-full}
 use Rattle.encoding.proofs.EncodingWriter.write_varint.Statement.{statement}
 use Rattle.encoding.proofs.EncodingWriter.write_varint.Tie as tie
 
@@ -26,10 +25,12 @@ returns c =
     let a = p .before .before .before .before .before .args in
     let h = p .before .before .before .varint-has-room .ensures .holds (p .before .before .if1 .taken) in
     let n = p .put-varint .ensures .0 in
-    writes-room (a .self) _ refl h (p .put-varint .ensures .1) (c .moved .ensures ∙ ap (λ (k : ℕ). Next (record { at = k; «required_alignment» = a .self .«required_alignment» })) n)
+    let m = c .moved .ensures ∙ ap (λ (k : ℕ). Next (record { at = k; «required_alignment» = a .self .«required_alignment» })) n in
+    writes-room (a .self) _ refl h (p .put-varint .ensures .1) m
 
 returns-2 : tie.Need-returns-2
-returns-2 c = writes-full (c .before .before .before .args .self) _ refl (c .before .varint-has-room .ensures .fails (c .if1 .left))
+returns-2 c =
+    writes-full (c .before .before .before .args .self) _ refl (c .before .varint-has-room .ensures .fails (c .if1 .left))
 
 pub write-varint-spec : {M : Type 1} → statement M
 write-varint-spec =
