@@ -141,8 +141,8 @@ unfolding required
 required-some b a h = choose-no (decLt a 2) b (max b a) (omega arith)
 
 -- What a writer shows that has found room ..
-pub puts-room : (n at required : ℕ) {bs out out' : List ℕ} (k : ℕ) → length bs ≡ k → at + k ≤ length out → out' ≡ put out at bs →
-    Puts n at required bs out out' (wrote (at + k) required)
+pub puts-room : (n at required : ℕ) {bs out out' : List ℕ} (k : ℕ) → length bs ≡ k → at + k ≤ length out →
+    out' ≡ put out at bs → Puts n at required bs out out' (wrote (at + k) required)
 puts-room n at required {bs} {out} k e h o =
     record { answer = sym (rw e at (after-room n out at required bs (omega arith))); output = o }
 
@@ -156,7 +156,8 @@ puts-full n at required {bs} {out} k e h =
 -- The same bytes by another name.
 pub puts-as : {n at required : ℕ} {bs cs out out' : List ℕ} {r : Wrote} → bs ≡ cs → Puts n at required bs out out' r →
     Puts n at required cs out out' r
-puts-as {n} {at} {required} {out = out} {out' = out'} {r = r} e h = subst (λ (l : List ℕ). Puts n at required l out out' r) e h
+puts-as {n} {at} {required} {out = out} {out' = out'} {r = r} e h =
+    subst (λ (l : List ℕ). Puts n at required l out out' r) e h
 
 -- Two results of one call are equal.
 pub puts-only : {n at required : ℕ} {bs out out' out'' : List ℕ} {r s : Wrote} → Puts n at required bs out out' r →

@@ -92,7 +92,7 @@ module _ (w : ℕ) (one : 1 ≤ w) where
             rw (choose-no (decLt v (2 ^ (w - 1))) (pos v) (negsuc (2 ^ w - 1 - v)) k) l
       ]
 
--- The machine's widths: twice as many bits patterns as below the sign bit.
+-- The machine's widths: half of the patterns are below the sign bit ..
 double : (w : Width) → 2 ^ bits w ≡ 2 * 2 ^ hbits w
 double w8 = refl
 double w16 = refl
@@ -100,6 +100,7 @@ double w32 = refl
 double w64 = refl
 double w128 = refl
 
+-- .. and one bit is the sign.
 less-one : (w : Width) → bits w - 1 ≡ hbits w
 less-one w8 = refl
 less-one w16 = refl
@@ -107,9 +108,11 @@ less-one w32 = refl
 less-one w64 = refl
 less-one w128 = refl
 
+-- A pattern below the sign bit is a natural number ..
 to-pos : (w : Width) (n : ℕ) → n < 2 ^ hbits w → toZ w n ≡ pos n
 to-pos w n h = rw (lt-ltb n (2 ^ hbits w) h)
 
+-- .. and another one lies below 0.
 to-neg : (w : Width) (n : ℕ) → 2 ^ hbits w ≤ n → toZ w n ≡ negsuc (2 ^ bits w - 1 - n)
 to-neg w n h =
     let e : 2 ^ bits w - suc n ≡ 2 ^ bits w - 1 - n = omega arith in
@@ -125,7 +128,8 @@ toZ-signed w b =
     ]
 
 -- What is written from the sign bit on, complemented twice, is the number that has that pattern.
-pub not-not-signed : (w : Width) (b : ℕ) → b < 2 ^ bits w → toZ w (2 ^ bits w - 1 - (2 ^ bits w - 1 - b)) ≡ signed (bits w) b
+pub not-not-signed : (w : Width) (b : ℕ) → b < 2 ^ bits w →
+    toZ w (2 ^ bits w - 1 - (2 ^ bits w - 1 - b)) ≡ signed (bits w) b
 not-not-signed w b h =
     let e : 2 ^ bits w - 1 - (2 ^ bits w - 1 - b) ≡ b = omega arith in
     rw e (toZ-signed w b)
@@ -142,7 +146,8 @@ ltb-zero : (n : ℕ) → ltb n 0 ≡ true → ⊥
 ltb-zero n e = let h = ltb-true n 0 e in omega arith
 
 -- A signed number that the code has found to be below 0: its complement is how far below -1 it is.
-complement : (w : Width) (z : ℤ) → SFits w z → ltZ z (pos 0) ≡ true → (toZ w (2 ^ bits w - 1 - ofZ w z) ≡ pos (mag z)) × (z ≡ negsuc (mag z))
+complement : (w : Width) (z : ℤ) → SFits w z → ltZ z (pos 0) ≡ true →
+    (toZ w (2 ^ bits w - 1 - ofZ w z) ≡ pos (mag z)) × (z ≡ negsuc (mag z))
 complement w (pos n) f t = absurd (ltb-zero n t)
 complement w (negsuc n) f t =
     let d = double w in
@@ -168,7 +173,8 @@ module _ (w : Width) (z : ℤ) (f : SFits w z) where
   below-casts t = casts w (mag z) (f .sfits) (below t .0)
 
   -- .. and gives its pattern, complemented again, and its zigzag.
-  pub below-is : ltZ (toZ w (ofZ w z)) (pos 0) ≡ true → (natAbs (toZ w (2 ^ bits w - 1 - ofZ w z)) ≡ mag z) × (z ≡ negsuc (mag z))
+  pub below-is : ltZ (toZ w (ofZ w z)) (pos 0) ≡ true →
+      (natAbs (toZ w (2 ^ bits w - 1 - ofZ w z)) ≡ mag z) × (z ≡ negsuc (mag z))
   below-is t = (ap natAbs (below t .0), below t .1)
 
   pub below-pattern : ltZ (toZ w (ofZ w z)) (pos 0) ≡ true →
@@ -176,7 +182,8 @@ module _ (w : Width) (z : ℤ) (f : SFits w z) where
   below-pattern t = ap (λ (n : ℕ). 2 ^ bits w - 1 - n) (below-is t .0) ∙ sym (ap (pattern (bits w)) (below-is t .1))
 
   -- A number from 0 on is cast ..
-  pub above-casts : ltZ (toZ w (ofZ w z)) (pos 0) ≡ false → T (nonNeg (toZ w (ofZ w z))) × Fits w (natAbs (toZ w (ofZ w z)))
+  pub above-casts : ltZ (toZ w (ofZ w z)) (pos 0) ≡ false →
+      T (nonNeg (toZ w (ofZ w z))) × Fits w (natAbs (toZ w (ofZ w z)))
   above-casts t = casts w (mag z) (f .sfits) (above t .0)
 
   -- .. and is its own pattern.

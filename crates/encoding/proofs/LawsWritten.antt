@@ -1,9 +1,10 @@
 -- What the writers answer, as the code's own answers: from room found or not found, to the promise. Assumes nothing.
 use mathlib.Core.Path.{_≡_, sym, ap, ap₂, _∙_}
+use mathlib.Core.Logic.{_⊎_}
 use mathlib.Core.List.{List, map}
-use Prim.Native.Nat.{ℕ, _+_, _*_, _%_, _≤_}
+use Prim.Native.Nat.{ℕ, _+_, _*_, _%_, _≤_, _<_, max}
 use native.Mathlib.Omega.{arith}
-use lib.ListN.{length, replicate, length-replicate, length-append, length-map}
+use lib.ListN.{length, getD, take, drop, replicate, length-replicate, length-append, length-map}
 use Rattle.exact.specs.Padding.{gap}
 use Rattle.exact.proofs.LawsPadding.{gap-even}
 use Rattle.enums.specs.Container.{P}
@@ -16,12 +17,13 @@ use Rattle.encoding.specs.declared.Written.{Written}
 use Rattle.encoding.specs.declared.Written.the-variants as written
 use Rattle.encoding.specs.declared.Patched.{Patched}
 use Rattle.encoding.specs.declared.Patched.the-variants as patched
-use Rattle.encoding.proofs.LawsOut.{put-append, puts-room, puts-full, puts-there, puts-only}
+use Rattle.encoding.proofs.LawsOut.{put-append, puts-room, puts-full, puts-there, puts-kept, puts-other, puts-only, required-some}
 use Rattle.encoding.proofs.LawsArray.{length-flat}
 
 -- A writer that found room for its k bytes, put them and moved behind them ..
-pub writes-room : (w : EncodingWriter) {bs out out' : List ℕ} {r : Written} (k : ℕ) → length bs ≡ k → w .at + k ≤ length out →
-    out' ≡ put out (w .at) bs → r ≡ written.Next (record { at = w .at + k; «required_alignment» = w .«required_alignment» }) →
+pub writes-room : (w : EncodingWriter) {bs out out' : List ℕ} {r : Written} (k : ℕ) → length bs ≡ k →
+    w .at + k ≤ length out → out' ≡ put out (w .at) bs →
+    r ≡ written.Next (record { at = w .at + k; «required_alignment» = w .«required_alignment» }) →
     Writes w bs out out' r
 writes-room w k e h o m =
     rw (ap wroteOf m) (puts-room refusals.full (w .at) (w .«required_alignment») k e h o)
@@ -33,7 +35,7 @@ writes-full w k e h = puts-full refusals.full (w .at) (w .«required_alignment»
 
 module _ {A : Type 0} (w : ℕ) (f : A → ℕ) (xs : List A) where
   -- A counted array has its count's length and its numbers' widths.
-  length-counted : length (countedBytes w (map f xs)) ≡ length (spelling (length xs)) + length xs * w
+  pub length-counted : length (countedBytes w (map f xs)) ≡ length (spelling (length xs)) + length xs * w
   length-counted =
       let e = length-map xs f in
       rw (length-append, length-flat, e)
@@ -76,19 +78,32 @@ patched-one (patched.Next v) (patched.Refused n) e = let z : _≡_ {A = ℕ} 0 1
 patched-one (patched.Refused n) (patched.Next w) e = let z : _≡_ {A = ℕ} 0 1 = cc in absurd (omega (arith, z))
 patched-one (patched.Refused m) (patched.Refused n) e = let a : m ≡ n = cc in ap patched.Refused a
 
--- An accepted `align_to` ends at a multiple of the alignment.
+-- An accepted `align_to` ends at a multiple of the alignment, which is then required unless a larger one was.
 pub aligned : (w : EncodingWriter) (a : ℕ) {v : EncodingWriter} {out out' : List ℕ} → 2 ≤ a →
-    Writes (asked w a) (replicate (gap a (w .at)) P) out out' (written.Next v) → v .at % a ≡ 0
+    Writes (asked w a) (replicate (gap a (w .at)) P) out out' (written.Next v) →
+    (v .at % a ≡ 0) × (v .«required_alignment» ≡ max (w .«required_alignment») a)
 aligned w a h p =
-    let e = puts-there p .1 ∙ ap (λ (n : ℕ). w .at + n) (length-replicate (gap a (w .at)) P) in
-    rw e (gap-even a (w .at) h)
+    let t = puts-there p in
+    let e = t .1 ∙ ap (λ (n : ℕ). w .at + n) (length-replicate (gap a (w .at)) P) in
+    (rw e (gap-even a (w .at) h), t .2 ∙ required-some (w .«required_alignment») a h)
+
+-- An accepted patch is there and changed no other byte ..
+pub patch-changes : {at next : ℕ} {bs out out' : List ℕ} → Patches at bs out out' (patched.Next next) →
+    (take (length bs) (drop at out') ≡ bs) ×
+    ((i : ℕ) → (i < at) ⊎ (at + length bs ≤ i) → getD out' i 0 ≡ getD out i 0)
+patch-changes p = (puts-there p .0, λ i o. puts-other i o p)
+
+-- .. and a refused one, 14, changed none.
+pub patch-kept : {at n : ℕ} {bs out out' : List ℕ} → Patches at bs out out' (patched.Refused n) →
+    (out' ≡ out) × (n ≡ refusals.notThere)
+patch-kept p = puts-kept p
 
 -- Any two results that one writer's contract allows are equal, answer and output: of every writer, whatever its bytes ..
-pub writes-only : {w : EncodingWriter} {bs out out' out'' : List ℕ} {r s : Written} → Writes w bs out out' r → Writes w bs out out'' s →
-    (r ≡ s) × (out' ≡ out'')
+pub writes-only : {w : EncodingWriter} {bs out out' out'' : List ℕ} {r s : Written} → Writes w bs out out' r →
+    Writes w bs out out'' s → (r ≡ s) × (out' ≡ out'')
 writes-only {r = r} {s = s} p q = let e = puts-only p q in (written-one r s (e .0), e .1)
 
 -- .. and of a patch.
-pub patches-only : {at : ℕ} {bs out out' out'' : List ℕ} {r s : Patched} → Patches at bs out out' r → Patches at bs out out'' s →
-    (r ≡ s) × (out' ≡ out'')
+pub patches-only : {at : ℕ} {bs out out' out'' : List ℕ} {r s : Patched} → Patches at bs out out' r →
+    Patches at bs out out'' s → (r ≡ s) × (out' ≡ out'')
 patches-only {r = r} {s = s} p q = let e = puts-only p q in (patched-one r s (e .0), e .1)

@@ -351,7 +351,7 @@ impl EncodingWriter {
         self.write_le_u64(out, bits)
     }
 
-    // Write an f64, by its bits, in a float type: the 8-bit types as their byte, the others as a signed varint.
+    // Write an f64, by its bits, in a float type: F64 as its bits in a signed varint, the 8-bit types as their byte.
     pub fn write_ap_float(self, out: &mut [u8], bits: u64, ty: FloatType) -> Written
         ensures { λ r. ⌜ WritesFloat self bits ty (now (out .entry)) (now (out .exit)) r ⌝ }
     {

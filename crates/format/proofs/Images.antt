@@ -1,42 +1,59 @@
 -- The image of well-formed tables, if it fits, is a file that stands for them; reading it returns them, and equal images
 -- come from equal tables. Assumes nothing.
-use mathlib.Core.Path.{_≡_, refl, sym, ap, _∙_, subst}
-use mathlib.Core.Bool.{Bool, true, false, _||_, true≢false, false≢true}
+use mathlib.Core.Path.{_≡_, refl, sym, ap, subst}
+use mathlib.Core.Bool.{true, false, _||_, true≢false, false≢true}
 use Prim.Native.Nat.{ℕ, _+_, _^_, _≤_, _<_}
 use native.Mathlib.Decide.{ℕ-discrete}
 use native.Mathlib.Omega.{arith}
 use mathlib.Core.List.{List, [], _∷_, _++_, map, append-nil}
 use mathlib.Core.Option.{Option, none, some}
-use lib.ListN.{length, take, drop, length-append, length-map}
+use lib.ListN.{length, take, drop, length-map}
 use Rattle.exact.specs.Sequence.{of}
 use Rattle.exact.specs.Fixed.{bytesOf}
-use Rattle.exact.specs.Tiling.{join, sums}
+use Rattle.exact.specs.Tiling.{join}
 use Rattle.exact.specs.Entries.{Rows}
-use Rattle.exact.proofs.LawsFixed.{length-bytesOf}
-use Rattle.enums.specs.declared.VersionClass.{VersionClass}
 use Rattle.enums.specs.Container.{sectionIds, stringId, funcId, debugId, constantId, typeId, globalId, producerId}
 use Rattle.encoding.specs.Varint.{spelling}
 use Rattle.encoding.proofs.LawsVarint.{spelling-spells}
-use Rattle.format.specs.Tables.{Version, TypeRow, Global, Function, Attribute, Tables}
+use Rattle.format.specs.Tables.{Version, Attribute, Tables}
 use Rattle.format.specs.Header.{Header}
 use Rattle.format.specs.Sections.{Section, Payload}
 use Rattle.format.specs.Strings.{Strings, Constants, Producer, producer, noRows}
 use Rattle.format.specs.Types.{TypeEntry, Types}
 use Rattle.format.specs.Globals.{Globals}
 use Rattle.format.specs.Functions.{Functions}
-use Rattle.format.specs.Debug.{DebugTables, Debug, noDebug}
+use Rattle.format.specs.Debug.{Debug, noDebug}
 use Rattle.format.specs.Explains.{class, Explains}
 use Rattle.format.specs.Read.{accepted}
 use Rattle.format.specs.DecodeContainer.{placesOf}
 use Rattle.format.specs.Decode.{mostBytes, decode}
-use Rattle.format.specs.Sheet.{frameOf, functionRowOf, functionWords, globalWords, attributeWords, listWords, typeWords, producerWord, wordsOf, sheetOf}
-use Rattle.format.specs.Sound.{All, Fits, SoundVersion, SoundType, SoundGlobal, SoundFunction, SoundAttribute, SoundFrame, Inside, Sound}
+use Rattle.format.specs.Sheet.{
+  frameOf,
+  functionRowOf,
+  functionWords,
+  globalWords,
+  attributeWords,
+  listWords,
+  typeWords,
+  producerWord,
+  sheetOf,
+}
+use Rattle.format.specs.Sound.{
+  All,
+  Fits,
+  SoundVersion,
+  SoundType,
+  SoundGlobal,
+  SoundFunction,
+  SoundAttribute,
+  Inside,
+  Sound,
+}
 use Rattle.format.specs.Tests.{both?, all?, not?}
 use Rattle.format.specs.Image.{
   Part,
   typeBytes,
   attributeBytes,
-  debugBytes,
   hasRows,
   isNamed,
   producerBytes,
@@ -53,23 +70,23 @@ use Rattle.format.specs.Image.{
   image,
 }
 use Rattle.format.proofs.LawsImageItems.{all-both, all-zip, all-unmap, fixed-of}
-use Rattle.format.proofs.LawsImageTypes.{type-entry-of}
+use Rattle.format.proofs.LawsImageTypes.{GoodType, type-of}
 use Rattle.format.proofs.LawsImageRows.{each-of, GoodGlobal, globals-of, GoodFunction, functions-of, GoodAttribute, debug-of}
-use Rattle.format.proofs.LawsImageSections.{sectionsFrom, NoId, laid-out, Stands, stands-among}
+use Rattle.format.proofs.LawsImageSections.{sectionsFrom, laid-out, Stands, stands-among}
 use Rattle.format.proofs.LawsImageSizes.{parts-small, sums-below, debug-le, back-le}
-use Rattle.format.proofs.LawsImageParts.{SaysYes, said-yes, noId?, Small, parts-good, rows-none, rows-some, whole-each, table-of}
+use Rattle.format.proofs.LawsImageParts.{
+  said-yes,
+  noId?,
+  Small,
+  parts-good,
+  rows-none,
+  rows-some,
+  whole-each,
+  table-of,
+}
 use Rattle.format.proofs.LawsWords.{FrameFits, frame-fits}
 use Rattle.format.proofs.LawsLast.{places-sound}
 use Rattle.format.proofs.Decoded.{decode-complete, tables-only}
-
--- A type row whose words are u64 and which is well-formed.
-record GoodType (c : VersionClass) (r : TypeRow) : Type 0 where
-  words : All (Fits 64) (typeWords r)
-  sound : SoundType c r
-
-good-type : (c : VersionClass) (r : TypeRow) → GoodType c r → TypeEntry c 0 (typeBytes c r) r
-unfolding typeWords
-good-type c r g = type-entry-of c 0 r (g .words .1) (g .sound)
 
 not-named : (p : Option ℕ) → isNamed p ≡ false → none ≡ p
 unfolding isNamed
@@ -133,17 +150,17 @@ module _ (t : Tables) (s : Sound t) (n : length (image t) ≤ mostBytes) where
       (fits .producer))
 
   types-stand : (i : ℕ) → Stands typeId (sectionsFrom i (partsOf t)) (Types (class (t .version))) [] (λ v. v) (t .types)
-  unfolding partsOf stringPart producerPart typePart constantPart globalPart functionPart debugPart all? both? not? ℕ-discrete frameOf
+  unfolding partsOf stringPart producerPart typePart constantPart globalPart functionPart debugPart all? both? not? ℕ-discrete frameOf typeWords
   types-stand =
       let c = class (t .version) in
       let good = all-zip (λ r. All (Fits 64) (typeWords r)) (SoundType c) (GoodType c)
-      (λ r w h. record { words = w; sound = h }) (t .types) (fits .type-words) (s .frame .types) in
+      (λ r w h. record { words = w .1; sound = h }) (t .types) (fits .type-words) (s .frame .types) in
       stands-among (Types c) [] (λ v. v) (t .types) (before 2) (typePart c (t .types)) (behind 2)
       (said-yes (noId? typeId (before 2)) tt) (said-yes (noId? typeId (behind 2)) tt)
       (rows-none (t .types))
       (λ e o.
       let r = table-of 4 4 o (map (typeBytes c) (t .types)) (t .types) (omega arith) (rw length-map (fits .types)) (rows-some (t .types) e)
-      (small .1 .1 .0 e) (each-of (TypeEntry c) (typeBytes c) (GoodType c) (λ v g. good-type c v g) (t .types) good) in
+      (small .1 .1 .0 e) (each-of (TypeEntry c) (typeBytes c) (GoodType c) (type-of c) (t .types) good) in
       (r .0 .values, of (r .1), r .2))
 
   constants-stand : (i : ℕ) → Stands constantId (sectionsFrom i (partsOf t)) Constants noRows (λ r. r .values) (t .constants)

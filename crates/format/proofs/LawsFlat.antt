@@ -1,13 +1,13 @@
 -- Flattened rows as a language over words, and the readers of a list and of a table, exact for it. Assumes nothing.
-use mathlib.Core.Path.{_≡_, refl, sym, ap, _∙_, subst}
-use Prim.Native.Nat.{ℕ, zero, suc, _+_}
+use mathlib.Core.Path.{_≡_, refl, ap}
+use Prim.Native.Nat.{ℕ, suc, _+_}
 use native.Mathlib.Decide.{ℕ-discrete}
 use mathlib.Core.List.{List, [], _∷_, _++_, map}
 use lib.ListN.{length}
-use Rattle.exact.specs.Exact.{Parser, Lang, Exact}
+use Rattle.exact.specs.Exact.{Parser, Exact}
 use Rattle.exact.specs.Basic.{One, one, Is, is, Never}
 use Rattle.exact.specs.Sequence.{Then, then}
-use Rattle.exact.specs.Choice.{If, so, else}
+use Rattle.exact.specs.Choice.{If, so}
 use Rattle.exact.specs.Repeat.{Many, nil, cons, Counted, counted-of}
 use Rattle.exact.specs.Tiling.{join}
 use Rattle.exact.proofs.LawsExact.{same-exact}

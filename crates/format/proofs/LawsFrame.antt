@@ -1,5 +1,5 @@
 -- The judge of a sheet accepts exactly the words of well-formed frames. Assumes nothing.
-use mathlib.Core.Path.{_≡_, refl, sym, ap, _∙_, subst}
+use mathlib.Core.Path.{_≡_, refl, sym, ap, _∙_}
 use mathlib.Core.Logic.{_↔_}
 use Prim.Native.Nat.{ℕ, zero, suc, _+_}
 use native.Mathlib.Decide.{ℕ-discrete}
@@ -20,7 +20,6 @@ use Rattle.exact.proofs.LawsBasic.{byte-exact}
 use Rattle.exact.proofs.LawsSequence.{bind-exact, map-exact}
 use Rattle.exact.proofs.LawsChoice.{choose-yes, such-exact}
 use Rattle.exact.proofs.LawsFixed.{raw-exact}
-use Rattle.enums.specs.declared.VersionClass.{VersionClass}
 use Rattle.enums.specs.Refusals as refusals
 use Rattle.format.specs.Tables.{Version, TypeRow, Global, Attribute}
 use Rattle.format.specs.Explains.{class}
@@ -108,7 +107,7 @@ tables-exact v p cs =
     map-exact (frameFrom v p ss ts ks gs fs at) (table-exact cs 6 list-exact)))))))
 
 -- n elements of a list from k on.
-abbrev part : ℕ → ℕ → List ℕ → List ℕ
+abbrev pub part : ℕ → ℕ → List ℕ → List ℕ
 part zero k l = []
 part (suc n) k l = getD l k 0 ∷ part n (suc k) l
 

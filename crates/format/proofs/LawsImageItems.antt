@@ -1,22 +1,21 @@
 -- What the writer writes for numbers, arrays, optional fields and offset tables stands for them. Assumes nothing.
-use mathlib.Core.Path.{_≡_, refl, sym, ap, _∙_, subst}
-use mathlib.Core.Logic.{_⊎_, inl, inr}
-use Prim.Native.Nat.{ℕ, zero, suc, _+_, _^_, _<_}
-use mathlib.Core.List.{List, [], _∷_, _++_, map, append-assoc, append-nil}
+use mathlib.Core.Path.{refl, ap, _∙_, subst}
+use mathlib.Core.Logic.{inl, inr}
+use Prim.Native.Nat.{ℕ, _+_, _^_, _<_}
+use mathlib.Core.List.{List, [], _∷_, _++_, map, append-assoc}
 use lib.ListN.{length, replicate}
 use Rattle.exact.specs.Exact.{Lang}
-use Rattle.exact.specs.Sequence.{Of, of}
+use Rattle.exact.specs.Sequence.{of}
 use Rattle.exact.specs.Choice.{choose}
 use Rattle.exact.specs.Repeat.{Many, nil, cons, counted-of}
-use Rattle.exact.specs.Fixed.{little, bytesOf, Raw, raw-of, Fixed}
+use Rattle.exact.specs.Fixed.{little, bytesOf, raw-of, Fixed}
 use Rattle.exact.specs.Padding.{gap}
 use Rattle.exact.specs.Tiling.{join, sums}
-use Rattle.exact.specs.Table.{Table}
-use Rattle.exact.specs.Entries.{Each, Rows, Entries}
+use Rattle.exact.specs.Entries.{Each, Entries}
 use Rattle.exact.proofs.LawsFixed.{length-bytesOf, little-bytesOf}
 use Rattle.exact.proofs.LawsTiling.{length-sums}
 use Rattle.enums.specs.Container.{P}
-use Rattle.encoding.specs.Varint.{Spells, spelling}
+use Rattle.encoding.specs.Varint.{spelling}
 use Rattle.encoding.specs.Out.{flat, countedBytes}
 use Rattle.encoding.proofs.LawsVarint.{spelling-spells}
 use Rattle.format.specs.Items.{Number, Byte, byte-of, Field, there, absent, Array, Indices, Padded, padded, Bit0}

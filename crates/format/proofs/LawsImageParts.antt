@@ -1,44 +1,25 @@
 -- The sections of an image that fits: each can be a section of a file, and stands for its table. Assumes nothing.
-use mathlib.Core.Path.{_≡_, refl, sym, ap, _∙_, subst}
-use mathlib.Core.Bool.{Bool, true, false, _||_, true≢false, false≢true}
-use Prim.Native.Nat.{ℕ, zero, suc, _+_, _^_, _≤_, _<_}
+use mathlib.Core.Path.{_≡_, refl}
+use mathlib.Core.Bool.{true, false, true≢false, false≢true}
+use Prim.Native.Nat.{ℕ, _+_, _^_, _≤_, _<_}
 use native.Mathlib.Decide.{ℕ-discrete, decLt}
 use native.Mathlib.Omega.{arith}
-use mathlib.Core.List.{List, [], _∷_, _++_, map}
+use mathlib.Core.List.{List, [], _∷_}
 use mathlib.Core.Option.{Option, none, some}
-use lib.ListN.{length, length-append, length-map}
+use lib.ListN.{length}
 use Rattle.exact.specs.Exact.{Lang}
-use Rattle.exact.specs.Sequence.{of}
-use Rattle.exact.specs.Tiling.{join, sums}
+use Rattle.exact.specs.Tiling.{join}
 use Rattle.exact.specs.Upto.{Whole, whole-of}
 use Rattle.exact.specs.Entries.{Each, none-left, entry-of, Rows}
-use Rattle.enums.specs.declared.VersionClass.{VersionClass}
-use Rattle.enums.specs.Container.{stringId, funcId, debugId, constantId, typeId, globalId, producerId}
-use Rattle.encoding.specs.Varint.{spelling}
-use Rattle.encoding.proofs.LawsVarint.{spelling-spells}
-use Rattle.format.specs.Tables.{TypeRow, Global, Function, Attribute, Tables}
-use Rattle.format.specs.Sections.{Section}
-use Rattle.format.specs.Strings.{OffsetTable, filled, Strings, Constants, Producer, producer, noRows}
-use Rattle.format.specs.Types.{TypeEntry, Types, valuesOf}
-use Rattle.format.specs.Globals.{Globals}
-use Rattle.format.specs.Functions.{Functions}
-use Rattle.format.specs.Debug.{DebugTables, Debug, noDebug}
-use Rattle.format.specs.Explains.{class}
+use Rattle.format.specs.Tables.{Tables}
+use Rattle.format.specs.Strings.{OffsetTable, filled}
 use Rattle.format.specs.Decode.{mostBytes}
-use Rattle.format.specs.Sheet.{frameOf, functionRowOf, functionWords, globalWords, attributeWords, fieldWords, typeWords, wordsOf, sheetOf}
-use Rattle.format.specs.Sound.{All, Fits, SoundType, SoundGlobal, SoundFunction, SoundAttribute, Sound}
+use Rattle.format.specs.Sound.{All, Fits}
 use Rattle.format.specs.Tests.{both?, all?, not?, fits?}
 use Rattle.format.specs.Image.{
   Part,
-  typeBytes,
-  globalBytes,
-  functionBytes,
-  attributeBytes,
   offsetTable,
-  debugBytes,
   hasRows,
-  isNamed,
-  producerBytes,
   stringPart,
   producerPart,
   typePart,
@@ -47,24 +28,10 @@ use Rattle.format.specs.Image.{
   functionPart,
   debugPart,
   partsOf,
-  partsFrom,
-  headerBytes,
-  image,
 }
-use Rattle.format.proofs.LawsImageItems.{all-front, all-back, all-both, all-zip, all-unmap, entries-of}
-use Rattle.format.proofs.LawsImageTypes.{type-entry-of}
-use Rattle.format.proofs.LawsImageRows.{
-  each-of,
-  GoodGlobal,
-  globals-of,
-  GoodFunction,
-  functions-of,
-  GoodAttribute,
-  debug-of,
-}
-use Rattle.format.proofs.LawsImageSections.{GoodAlignment, GoodPart, sectionsFrom, NoId, Stands, stands-behind, stands-here}
-use Rattle.format.proofs.LawsImageSizes.{parts-small, sums-below, table-le, debug-le, back-le}
-use Rattle.format.proofs.LawsWords.{FrameFits, frame-fits}
+use Rattle.format.proofs.LawsImageItems.{all-zip, entries-of}
+use Rattle.format.proofs.LawsImageSections.{GoodAlignment, GoodPart, NoId}
+use Rattle.format.proofs.LawsImageSizes.{sums-below, table-le}
 
 -- A question whose test says yes holds.
 abbrev pub SaysYes : {P : Type 0} → Dec P → Type 0

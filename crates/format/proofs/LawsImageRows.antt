@@ -1,18 +1,17 @@
 -- What the writer writes for well-formed globals, functions and debug tables stands for them. Assumes nothing.
-use mathlib.Core.Path.{_≡_, refl, sym, ap, _∙_, subst}
-use mathlib.Core.Logic.{_⊎_, inl, inr}
-use Prim.Native.Nat.{ℕ, zero, suc, _+_, _^_, _≤_, _<_}
+use mathlib.Core.Path.{_≡_, refl, sym, ap, subst}
+use Prim.Native.Nat.{ℕ, zero, suc, _+_, _≤_, _<_}
 use native.Mathlib.Nat.{zero-add}
 use native.Mathlib.Omega.{arith}
 use mathlib.Core.List.{List, [], _∷_, _++_, map, append-nil}
 use lib.ListN.{length, take, drop, getD, length-map, take-append-drop}
 use lib.Seq.{length-take-le}
 use Rattle.exact.specs.Exact.{Lang}
-use Rattle.exact.specs.Sequence.{Of, of}
+use Rattle.exact.specs.Sequence.{of}
 use Rattle.exact.specs.Repeat.{Many, nil, cons, Counted, counted-of}
 use Rattle.exact.specs.Tiling.{join, sums, Tiled}
-use Rattle.exact.specs.Upto.{Upto, upto-of}
-use Rattle.exact.specs.Entries.{Each, none-left, entry-of, Rows}
+use Rattle.exact.specs.Upto.{upto-of}
+use Rattle.exact.specs.Entries.{Each, none-left, entry-of}
 use Rattle.exact.proofs.LawsTiling.{length-sums}
 use Rattle.enums.specs.declared.VersionClass.{VersionClass}
 use Rattle.encoding.specs.Varint.{spelling}

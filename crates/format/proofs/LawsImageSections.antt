@@ -1,13 +1,13 @@
 -- The sections that the writer lays out are sections of a file, and each id's is the last one with its id.
 -- Assumes nothing.
-use mathlib.Core.Path.{_≡_, refl, sym, ap, _∙_, subst}
+use mathlib.Core.Path.{_≡_, refl, sym, ap, _∙_}
 use mathlib.Core.Bool.{Bool, true, false, cond}
-use Prim.Native.Nat.{ℕ, _+_, _%_, _≤_, _<_}
+use Prim.Native.Nat.{ℕ, _+_, _%_, _<_}
 use native.Mathlib.Omega.{arith}
 use mathlib.Core.List.{List, [], _∷_, _++_}
 use mathlib.Core.Option.{Option, none, some}
-use lib.ListN.{length, length-append}
-use Rattle.exact.specs.Until.{Until, end, item}
+use lib.ListN.{length}
+use Rattle.exact.specs.Until.{end, item}
 use Rattle.enums.specs.Container.{endOfBytecode}
 use Rattle.encoding.specs.Varint.{spelling}
 use Rattle.encoding.proofs.LawsVarint.{spelling-spells}
@@ -17,14 +17,12 @@ use Rattle.format.specs.Sections.{
   unaligned,
   aligned,
   SectionAt,
-  Item,
   marker,
   section,
   Sections,
   Missing,
   no-sections,
   other,
-  Last,
   Payload,
   absent,
   present,

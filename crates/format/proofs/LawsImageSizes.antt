@@ -1,26 +1,16 @@
 -- An image is at least as long as each of its payloads, and a payload as what it holds. Assumes nothing.
-use mathlib.Core.Path.{_≡_, refl, sym, ap, _∙_, subst}
+use mathlib.Core.Path.{_≡_}
 use mathlib.Core.Bool.{Bool, true, false, cond, false≢true}
-use Prim.Native.Nat.{ℕ, zero, suc, _+_, _≤_, _<_}
+use Prim.Native.Nat.{ℕ, suc, _+_, _≤_, _<_}
 use native.Mathlib.Omega.{arith}
-use mathlib.Core.List.{List, [], _∷_, _++_, map}
+use mathlib.Core.List.{List, [], _∷_, _++_}
 use lib.ListN.{length, length-append}
-use Rattle.exact.specs.Fixed.{bytesOf}
 use Rattle.exact.specs.Tiling.{join, sums}
 use Rattle.exact.proofs.LawsFixed.{length-bytesOf}
 use Rattle.encoding.specs.Varint.{spelling}
 use Rattle.encoding.specs.Out.{flat}
 use Rattle.format.specs.Sound.{All}
-use Rattle.format.specs.Image.{
-  Part,
-  alignmentBytes,
-  firstByte,
-  paddedNumbers,
-  offsetTable,
-  debugBytes,
-  partBytes,
-  partsFrom,
-}
+use Rattle.format.specs.Image.{Part, alignmentBytes, paddedNumbers, offsetTable, debugBytes, partBytes, partsFrom}
 
 -- A list is not shorter than one of its parts.
 front-le : (xs ys : List ℕ) → length xs ≤ length (xs ++ ys)

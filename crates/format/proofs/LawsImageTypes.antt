@@ -1,16 +1,15 @@
 -- What the writer writes for a well-formed type row is an entry that stands for it. Assumes nothing.
-use mathlib.Core.Path.{_≡_, refl, sym, ap, _∙_, subst}
-use mathlib.Core.Logic.{_⊎_, inl, inr}
-use mathlib.Core.Bool.{Bool, true, false, Bool-discrete}
-use Prim.Native.Nat.{ℕ, _%_, _<_}
+use mathlib.Core.Path.{_≡_, refl, sym, subst}
+use mathlib.Core.Logic.{inl, inr}
+use mathlib.Core.Bool.{Bool, true, false}
+use Prim.Native.Nat.{ℕ, _<_}
 use native.Mathlib.Decide.{ℕ-discrete}
 use native.Mathlib.Omega.{arith}
 use mathlib.Core.List.{List, [], _∷_, _++_, append-nil}
-use lib.ListN.{length}
 use Rattle.exact.specs.Choice.{choose}
 use Rattle.enums.specs.declared.VersionClass.{VersionClass}
 use Rattle.enums.specs.Types as tags
-use Rattle.encoding.specs.Varint.{Spells, spelling}
+use Rattle.encoding.specs.Varint.{spelling}
 use Rattle.encoding.specs.Out.{countedBytes}
 use Rattle.encoding.proofs.LawsVarint.{spelling-spells}
 use Rattle.format.specs.Tables.{
@@ -24,7 +23,7 @@ use Rattle.format.specs.Tables.{
   stridedView,
   function,
 }
-use Rattle.format.specs.Items.{Byte, byte-of, Field, Array, Truth, truth, truth-of, Bit0, since13·3}
+use Rattle.format.specs.Items.{Byte, byte-of, Array, Truth, truth, truth-of, Bit0, since13·3}
 use Rattle.format.specs.Types as T
 use Rattle.format.specs.Sheet.{countedWords, fieldWords}
 use Rattle.format.specs.Sound.{All, Fits, OnlyIf, SoundType}
@@ -105,8 +104,13 @@ entry : (c : VersionClass) (i t : ℕ) (bs : List ℕ) (r : TypeRow) → Fits 64
 entry c i t bs r h f =
     let e : T.TypeEntry c i (spelling t ++ (bs ++ [])) r = T.type-entry [] (spelling-spells t h) f in rw append-nil at e
 
+-- A row whose fields are u64 and which is well-formed.
+pub record GoodType (c : VersionClass) (r : TypeRow) : Type 0 where
+  pub words : All (Fits 64) (fieldWords r)
+  pub sound : SoundType c r
+
 -- A well-formed row's entry.
-pub type-entry-of : (c : VersionClass) (i : ℕ) (r : TypeRow) → Words (fieldWords r) → SoundType c r → T.TypeEntry c i (typeBytes c r) r
+type-entry-of : (c : VersionClass) (i : ℕ) (r : TypeRow) → Words (fieldWords r) → SoundType c r → T.TypeEntry c i (typeBytes c r) r
 unfolding typeBytes fieldWords
 type-entry-of c i (plain tag) w s = rw (← append-nil (spelling tag)) (entry c i tag [] (plain tag) (w .0) (T.a-plain s))
 type-entry-of c i (pointer f e a) w s =
@@ -143,3 +147,6 @@ type-entry-of c i (function xs ys) w s =
     let k = back xs (countedWords ys) (w .1) in
     entry c i tags.tagFunc _ (function xs ys) (w .0)
     (T.a-function refl (T.FunctionType.fields (indices-of xs (f .0) (f .1)) (indices-of ys (k .0) (k .1))))
+
+pub type-of : (c : VersionClass) (r : TypeRow) → GoodType c r → T.TypeEntry c 0 (typeBytes c r) r
+type-of c r g = type-entry-of c 0 r (g .words) (g .sound)

@@ -1,12 +1,11 @@
 -- A type's row is read exactly as its words say. Assumes nothing.
-use mathlib.Core.Path.{_≡_, refl, sym, ap, _∙_, subst}
-use Prim.Native.Nat.{ℕ, _+_}
+use mathlib.Core.Path.{_≡_, refl}
+use Prim.Native.Nat.{ℕ}
 use native.Mathlib.Decide.{ℕ-discrete}
-use native.Mathlib.Omega.{arith}
 use mathlib.Core.Bool.{true}
-use mathlib.Core.List.{List, [], _∷_, _++_}
+use mathlib.Core.List.{List}
 use lib.ListN.{length}
-use Rattle.exact.specs.Exact.{Parser, Lang, Exact}
+use Rattle.exact.specs.Exact.{Lang, Exact}
 use Rattle.exact.specs.Basic.{One, one, Is, is, Never}
 use Rattle.exact.specs.Sequence.{bind, Then, then, Of, of}
 use Rattle.exact.specs.Choice.{If, so, else, Such, such-of}

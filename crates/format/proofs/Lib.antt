@@ -30,3 +30,9 @@ pub mod LawsImageSizes
 pub mod LawsWords
 pub mod LawsImageParts
 pub mod Images
+pub mod LawsSoundItems
+pub mod LawsSoundRows
+pub mod LawsSoundTypes
+pub mod LawsSoundTables
+pub mod LawsSoundWords
+pub mod Sounds

@@ -1,18 +1,16 @@
 -- Tables with equal sheet and pool are equal. Assumes nothing.
 use mathlib.Core.Path.{_≡_, refl, sym, ap, ap₂, _∙_}
-use Prim.Native.Nat.{ℕ, zero, suc, _+_}
+use Prim.Native.Nat.{ℕ}
 use native.Mathlib.Decide.{ℕ-discrete}
 use native.Mathlib.Omega.{arith}
 use mathlib.Core.List.{List, [], _∷_, _++_, map, append-nil, append-assoc}
-use mathlib.Core.Option.{Option, none, some}
-use lib.ListN.{length, drop, getD, length-map, length-append}
+use lib.ListN.{length, drop, getD}
 use Rattle.exact.specs.Got.{Got, got, stop}
 use Rattle.exact.specs.Sequence.{bind}
 use Rattle.exact.specs.Choice.{choose}
 use Rattle.exact.specs.Tiling.{join}
 use Rattle.exact.proofs.LawsChoice.{choose-no}
 use Rattle.format.specs.Tables.{
-  Version,
   TypeRow,
   plain,
   pointer,
@@ -22,12 +20,9 @@ use Rattle.format.specs.Tables.{
   gatherScatterView,
   stridedView,
   function,
-  Global,
-  Attribute,
   Tables,
 }
 use Rattle.format.specs.Sheet.{
-  FunctionRow,
   Frame,
   frameOf,
   countedWords,
@@ -41,7 +36,6 @@ use Rattle.format.specs.Sheet.{
   listWords,
   bodies,
   contents,
-  producerWord,
   wordsOf,
   sheetOf,
   poolOf,

@@ -4,14 +4,14 @@ use mathlib.Core.Path.{_≡_, refl, sym, ap, _∙_}
 use mathlib.Core.Logic.{_↔_}
 use Prim.Native.Nat.{ℕ}
 use native.Mathlib.Decide.{ℕ-discrete}
-use mathlib.Core.List.{List, [], _∷_, _++_}
+use mathlib.Core.List.{List}
 use mathlib.Core.Option.{Option, none, some}
 use lib.ListN.{length}
 use Rattle.exact.specs.Choice.{choose}
 use Rattle.exact.proofs.LawsChoice.{choose-yes}
 use Rattle.format.specs.Tables.{Tables}
 use Rattle.format.specs.Sheet.{Frame, frameOf, poolLength, wordsOf, sheetOf, poolOf}
-use Rattle.format.specs.Sound.{All, Fits, SoundFrame, Sound}
+use Rattle.format.specs.Sound.{All, Fits, Sound}
 use Rattle.format.specs.Tests.{both?, all?, fits?}
 use Rattle.format.specs.Judge.{judged, cutting, withPool, tablesOf}
 use Rattle.format.proofs.LawsFrame.{judged-exact, none-not-some}

@@ -4,7 +4,7 @@ use mathlib.Core.Path.{_≡_, refl}
 use Prim.Native.Nat.{ℕ}
 use native.Mathlib.Decide.{decLe, decLt, ℕ-discrete}
 use mathlib.Core.List.{List, [], _∷_, _++_}
-use mathlib.Core.Option.{Option, none, some}
+use mathlib.Core.Option.{none, some}
 use Rattle.exact.specs.Got.{follow}
 use Rattle.exact.specs.Basic.{byte, byteOf, pure}
 use Rattle.exact.specs.Sequence.{bind, map}

@@ -1,10 +1,9 @@
 -- Judging a handed sheet (document 01, "The sheet"; nothing is refusal 12): the contents are read first and each start
 -- is checked before its table is followed; the rows of a table follow each other from there. Words are read as bytes
 -- are: one element of a list.
-use mathlib.Core.Path.{_≡_}
 use Prim.Native.Nat.{ℕ, zero, suc, _+_, _*_}
 use native.Mathlib.Decide.{ℕ-discrete}
-use mathlib.Core.List.{List, [], _∷_, _++_, map}
+use mathlib.Core.List.{List, [], _∷_, map}
 use mathlib.Core.Option.{Option, none, some}
 use lib.ListN.{length, take, drop, getD}
 use Rattle.exact.specs.Got.{Got, got, stop}

@@ -1,7 +1,7 @@
 -- The tests that decide the clauses of well-formed rows (document 01, "The sheet", the paragraph "Well-formed").
 use mathlib.Core.Path.{_≡_}
 use mathlib.Core.Logic.{_⊎_, inl, inr}
-use Prim.Native.Nat.{ℕ, _/_, _%_, _^_, _<_}
+use Prim.Native.Nat.{ℕ, _/_, _%_, _^_}
 use native.Mathlib.Decide.{decLt, ℕ-discrete}
 use mathlib.Core.Bool.{true, Bool-discrete}
 use mathlib.Core.List.{List, [], _∷_}

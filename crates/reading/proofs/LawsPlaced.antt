@@ -16,7 +16,7 @@ use Rattle.exact.specs.Fixed.{raw, little, fixed, nums}
 use Rattle.exact.specs.Padding.{here}
 use Rattle.exact.proofs.LawsExact.{stop-not-got, got-value, got-next}
 use Rattle.exact.proofs.LawsSequence.{follow-inv, bind-got, bind-stop}
-use Rattle.exact.proofs.LawsSteps.{raw-at, raw-end, fixed-at, fixed-end, times-at, times-end}
+use Rattle.exact.proofs.LawsSteps.{raw-at, raw-end, fixed-at, times-at, times-end}
 use Rattle.reading.specs.Numbers.{varintAt, placed, itemsAt, countedAt, Word}
 use Rattle.reading.proofs.LawsNumbers.{varint-in}
 

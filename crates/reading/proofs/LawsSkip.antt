@@ -1,16 +1,14 @@
 -- How the loop of `skip_padding` follows padding: k bytes P are still to come at i. Assumes nothing.
-use mathlib.Core.Path.{_≡_, refl, sym, ap, _∙_, subst}
-use Prim.Native.Nat.{ℕ, zero, suc, _+_, _-_, _%_, _≤_, _<_}
-use native.Mathlib.Nat.{not-suc-le-zero}
+use mathlib.Core.Path.{_≡_, sym, ap, _∙_, subst}
+use Prim.Native.Nat.{ℕ, suc, _+_, _-_, _%_, _≤_, _<_}
 use native.Mathlib.Omega.{arith}
 use native.Mathlib.Decide.{ℕ-discrete}
-use mathlib.Core.List.{List, [], _∷_}
+use mathlib.Core.List.{List}
 use lib.ListN.{length, getD, replicate}
 use Rattle.exact.specs.Got.{got, stop, ended, follow}
 use Rattle.exact.specs.Basic.{pure, fail}
 use Rattle.exact.specs.Sequence.{bind}
-use Rattle.exact.specs.Choice.{choose}
-use Rattle.exact.specs.Padding.{literal, broke, blamed, here, gap, pad}
+use Rattle.exact.specs.Padding.{literal, broke, blamed, here, pad}
 use Rattle.exact.proofs.LawsChoice.{choose-yes, choose-no}
 use Rattle.exact.proofs.LawsPadding.{gap-none, gap-some}
 use Rattle.exact.proofs.LawsSteps.{byte-at, byte-end}

@@ -1,5 +1,5 @@
 -- Little-endian numbers at a place, once over the width: one byte, and two numbers side by side. Assumes nothing.
-use mathlib.Core.Path.{_≡_, refl, sym, ap, _∙_}
+use mathlib.Core.Path.{_≡_, sym, _∙_}
 use Prim.Native.Nat.{ℕ, zero, suc, _+_, _*_, _-_, _^_, _≤_, _<_}
 use native.Mathlib.Nat.{pow-suc, mul-le-mul-left, mul-assoc, mul-one, pow-zero, add-zero, add-suc}
 use native.Mathlib.Omega.{arith}

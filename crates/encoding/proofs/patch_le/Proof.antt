@@ -14,7 +14,9 @@ put-le-requires : tie.Need-put-le-requires
 put-le-requires c κs = c .before .before .has-room .ensures .holds (c .before .if1 .taken)
 
 add-t10 : tie.Need-add-t10
-add-t10 c = omega (arith, c .before .before .before .before .before .has-room .ensures .holds (c .before .before .before .before .if1 .taken))
+add-t10 c =
+    let p = c .before .before .before .before in
+    omega (arith, p .before .has-room .ensures .holds (p .if1 .taken))
 
 same-length : tie.Need-same-length
 same-length c = search needs
@@ -23,11 +25,13 @@ returns : tie.Need-returns
 returns c =
     let p = c .before .before in
     let h = p .before .before .before .has-room .ensures .holds (p .before .before .if1 .taken) in
-    puts-room notThere (p .before .before .before .before .before .args .offset) 1 _ (length-bytesOf _ _) h (p .put-le .ensures)
+    let at = p .before .before .before .before .before .args .offset in
+    puts-room notThere at 1 _ (length-bytesOf _ _) h (p .put-le .ensures)
 
 returns-2 : tie.Need-returns-2
 returns-2 c =
-    puts-full notThere (c .before .before .before .args .offset) 1 _ (length-bytesOf _ _) (c .before .has-room .ensures .fails (c .if1 .left))
+    let at = c .before .before .before .args .offset in
+    puts-full notThere at 1 _ (length-bytesOf _ _) (c .before .has-room .ensures .fails (c .if1 .left))
 
 pub patch-le-spec : {M : Type 1} → statement M
 patch-le-spec =

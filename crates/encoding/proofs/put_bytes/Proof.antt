@@ -25,7 +25,8 @@ turn : (out bs : List ℕ) (at i : ℕ) → i < length bs → at + length bs ≤
 turn out bs at i h r =
     let n : length (drop i bs) ≡ length bs - i = length-drop i bs in
     let p : at + (i + 1) ≡ at + i + 1 = omega arith in
-    rw (add-one i) (put-next out (at + i) (getD bs i 0) (drop (suc i) bs) _ (drop-cons bs i 0 h) (rw add-one at p) (omega arith))
+    rw (add-one i)
+    (put-next out (at + i) (getD bs i 0) (drop (suc i) bs) _ (drop-cons bs i 0 h) (rw add-one at p) (omega arith))
 
 done : (out bs : List ℕ) (at i : ℕ) → length bs ≤ i → put out at (drop i bs) ≡ out
 done out bs at i h = rw (drop-of-length-le bs h) (put-nil out at)

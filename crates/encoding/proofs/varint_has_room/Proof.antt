@@ -13,7 +13,9 @@ has-room-requires : tie.Need-has-room-requires
 has-room-requires c κs = search needs
 
 returns : tie.Need-returns
-returns c = tells-yes (omega (arith, spelling-ten (c .before .before .args .value), c .before .has-room .ensures .holds (c .if1 .taken)))
+returns c =
+    let h = c .before .has-room .ensures .holds (c .if1 .taken) in
+    tells-yes (omega (arith, spelling-ten (c .before .before .args .value)))
 
 varint-size-requires : tie.Need-varint-size-requires
 varint-size-requires c κs = search needs
@@ -24,7 +26,8 @@ has-room-requires-2 c κs = search needs
 returns-2 : tie.Need-returns-2
 returns-2 c =
     let a = c .before .before .before .before .args in
-    subst (λ (n : ℕ). Tells (a .at + n ≤ a .len) (c .has-room2 .result)) (c .before .varint-size .ensures) (c .has-room2 .ensures)
+    let e = c .before .varint-size .ensures in
+    subst (λ (n : ℕ). Tells (a .at + n ≤ a .len) (c .has-room2 .result)) e (c .has-room2 .ensures)
 
 pub varint-has-room-spec : {M : Type 1} → statement M
 varint-has-room-spec =

@@ -39,7 +39,9 @@ asked-requires : tie.Need-asked-requires
 asked-requires c κs = search needs
 
 add-moved : tie.Need-add-moved
-add-moved c = omega (arith, c .before .before .before .before .before .before .has-room .ensures .holds (c .before .before .before .before .before .if1 .taken))
+add-moved c =
+    let p = c .before .before .before .before .before in
+    omega (arith, p .before .has-room .ensures .holds (p .if1 .taken))
 
 moved-requires : tie.Need-moved-requires
 moved-requires c κs = search needs
@@ -52,7 +54,8 @@ returns c =
     let p = c .before .before .before .before in
     let h = p .before .before .before .has-room .ensures .holds (p .before .before .if1 .taken) in
     let a = p .before .before .before .before .before .before .args in
-    padded (a .self) (a .alignment) (p .before .before .before .before .padding-to .ensures) (c .before .asked .ensures) h
+    let e = p .before .before .before .before .padding-to .ensures in
+    padded (a .self) (a .alignment) e (c .before .asked .ensures) h
     (p .put-padding .ensures) (c .moved .ensures)
 
 returns-2 : tie.Need-returns-2

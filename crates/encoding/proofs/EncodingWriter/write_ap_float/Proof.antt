@@ -66,8 +66,9 @@ same-length c = search needs
 returns : tie.Need-returns
 returns c =
     let p = c .before .before in
-    in-bits _ (p .before .before .before .before .before .before .fits .bits .fits) (p .before .before .before .enum-told .given .1) (p .before .i64-of-bits .ensures)
-    (p .write-signed-varint .ensures)
+    let t = p .before .before .before .enum-told .given .1 in
+    let b = p .before .before .before .before .before .before .fits .bits .fits in
+    in-bits _ b t (p .before .i64-of-bits .ensures) (p .write-signed-varint .ensures)
 
 same-length-2 : tie.Need-same-length-2
 same-length-2 c = search needs
@@ -75,7 +76,8 @@ same-length-2 c = search needs
 returns-2 : tie.Need-returns-2
 returns-2 c =
     let p = c .before .before in
-    told _ (rw (p .before .before .before .enum-told2 .given .1) (as-e4m3fn (p .before .f64-to-f8e4m3fn .ensures))) (p .write-byte .ensures)
+    let t = p .before .before .before .enum-told2 .given .1 in
+    told _ (rw t (as-e4m3fn (p .before .f64-to-f8e4m3fn .ensures))) (p .write-byte .ensures)
 
 same-length-3 : tie.Need-same-length-3
 same-length-3 c = search needs
@@ -83,7 +85,8 @@ same-length-3 c = search needs
 returns-3 : tie.Need-returns-3
 returns-3 c =
     let p = c .before .before in
-    told _ (rw (p .before .before .before .enum-told3 .given .1) (as-e5m2 (p .before .f64-to-f8e5m2 .ensures))) (p .write-byte2 .ensures)
+    let t = p .before .before .before .enum-told3 .given .1 in
+    told _ (rw t (as-e5m2 (p .before .f64-to-f8e5m2 .ensures))) (p .write-byte2 .ensures)
 
 pub write-ap-float-spec : {M : Type 1} → statement M
 write-ap-float-spec =

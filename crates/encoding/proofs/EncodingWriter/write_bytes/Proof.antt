@@ -13,7 +13,9 @@ put-bytes-requires : tie.Need-put-bytes-requires
 put-bytes-requires c κs = c .before .before .has-room .ensures .holds (c .before .if1 .taken)
 
 add-moved : tie.Need-add-moved
-add-moved c = omega (arith, c .before .before .before .before .before .has-room .ensures .holds (c .before .before .before .before .if1 .taken))
+add-moved c =
+    let p = c .before .before .before .before in
+    omega (arith, p .before .has-room .ensures .holds (p .if1 .taken))
 
 moved-requires : tie.Need-moved-requires
 moved-requires c κs = search needs
@@ -25,11 +27,13 @@ returns : tie.Need-returns
 returns c =
     let p = c .before .before .before in
     let h = p .before .before .before .has-room .ensures .holds (p .before .before .if1 .taken) in
-    writes-room (p .before .before .before .before .before .before .args .self) _ refl h (p .put-bytes .ensures) (c .moved .ensures)
+    let w = p .before .before .before .before .before .before .args .self in
+    writes-room w _ refl h (p .put-bytes .ensures) (c .moved .ensures)
 
 returns-2 : tie.Need-returns-2
 returns-2 c =
-    writes-full (c .before .before .before .before .args .self) _ refl (c .before .has-room .ensures .fails (c .if1 .left))
+    let w = c .before .before .before .before .args .self in
+    writes-full w _ refl (c .before .has-room .ensures .fails (c .if1 .left))
 
 pub write-bytes-spec : {M : Type 1} → statement M
 write-bytes-spec =

@@ -20,7 +20,8 @@ same-length c = search needs
 returns : tie.Need-returns
 returns c =
     let p = c .before .before in
-    let e = p .before .bits-of-i32 .ensures ∙ ap (pattern 32) (toZ-ofZ (p .before .before .before .before .fits .value)) in
+    let f = p .before .before .before .before .fits .value in
+    let e = p .before .bits-of-i32 .ensures ∙ ap (pattern 32) (toZ-ofZ f) in
     puts-as (ap (bytesOf 4) e) (p .write-le-u32 .ensures)
 
 pub write-le-i32-spec : {M : Type 1} → statement M

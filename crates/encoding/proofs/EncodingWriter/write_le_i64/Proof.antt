@@ -20,7 +20,8 @@ same-length c = search needs
 returns : tie.Need-returns
 returns c =
     let p = c .before .before in
-    let e = p .before .bits-of-i64 .ensures ∙ ap (pattern 64) (toZ-ofZ (p .before .before .before .before .fits .value)) in
+    let f = p .before .before .before .before .fits .value in
+    let e = p .before .bits-of-i64 .ensures ∙ ap (pattern 64) (toZ-ofZ f) in
     puts-as (ap (bytesOf 8) e) (p .write-le-u64 .ensures)
 
 pub write-le-i64-spec : {M : Type 1} → statement M

@@ -27,7 +27,8 @@ mul-moved c = search needs
 add-moved : tie.Need-add-moved
 add-moved c =
     let p = c .before .before .before .before .before .before in
-    omega (arith, p .put-varint .ensures .0, p .before .before .before .array-has-room .ensures .holds (p .before .before .if1 .taken))
+    let h = p .before .before .before .array-has-room .ensures .holds (p .before .before .if1 .taken) in
+    omega (arith, p .put-varint .ensures .0)
 
 moved-requires : tie.Need-moved-requires
 moved-requires c κs = search needs

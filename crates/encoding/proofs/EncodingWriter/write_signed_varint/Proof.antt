@@ -20,7 +20,8 @@ same-length c = search needs
 returns : tie.Need-returns
 returns c =
     let p = c .before .before in
-    let e = p .before .zigzag .ensures ∙ ap zigzag (toZ-ofZ (p .before .before .before .before .fits .value)) in
+    let f = p .before .before .before .before .fits .value in
+    let e = p .before .zigzag .ensures ∙ ap zigzag (toZ-ofZ f) in
     puts-as (ap spelling e) (p .write-varint .ensures)
 
 pub write-signed-varint-spec : {M : Type 1} → statement M

@@ -2,6 +2,7 @@
 use mathlib.Core.Path.{refl, ap, _∙_}
 use Prim.Native.Nat.{ℕ}
 use borrow.Author.Needs.{needs}
+use Rattle.encoding.specs.declared.Written.{Written}
 use Rattle.encoding.specs.declared.Written.the-variants.{Next}
 use Rattle.encoding.proofs.LawsWritten.{writes-room, writes-full}
 use Rattle.encoding.proofs.EncodingWriter.write_varint.Statement.{statement}
@@ -22,15 +23,16 @@ same-length c = search needs
 returns : tie.Need-returns
 returns c =
     let p = c .before .before .before in
-    let a = p .before .before .before .before .before .args in
+    let w = p .before .before .before .before .before .args .self in
     let h = p .before .before .before .varint-has-room .ensures .holds (p .before .before .if1 .taken) in
-    let n = p .put-varint .ensures .0 in
-    let m = c .moved .ensures ∙ ap (λ (k : ℕ). Next (record { at = k; «required_alignment» = a .self .«required_alignment» })) n in
-    writes-room (a .self) _ refl h (p .put-varint .ensures .1) m
+    let to : ℕ → Written = λ k. Next (record { at = k; «required_alignment» = w .«required_alignment» }) in
+    let m = c .moved .ensures ∙ ap to (p .put-varint .ensures .0) in
+    writes-room w _ refl h (p .put-varint .ensures .1) m
 
 returns-2 : tie.Need-returns-2
 returns-2 c =
-    writes-full (c .before .before .before .args .self) _ refl (c .before .varint-has-room .ensures .fails (c .if1 .left))
+    let w = c .before .before .before .args .self in
+    writes-full w _ refl (c .before .varint-has-room .ensures .fails (c .if1 .left))
 
 pub write-varint-spec : {M : Type 1} → statement M
 write-varint-spec =

@@ -1,0 +1,97 @@
+-- `read_sections` walks from section to section (`Walk`); what is left falls with each. Assumes nothing.
+use mathlib.Core.Path.{_≡_, refl, sym, ap, _∙_}
+use Prim.Native.Nat.{_-_, _<_}
+use native.Mathlib.Omega.{arith}
+use lib.ListN.{length}
+use Rattle.reading.proofs.LawsShown.{told-bytes}
+use Rattle.decoder.specs.Container.{rawSections}
+use Rattle.decoder.proofs.LawsItem.{item-no-header, item-end, item-short}
+use Rattle.decoder.proofs.LawsWalk.{Walk, walk-start, walk-refused, walk-ended, walk-less, walk-on}
+use Rattle.decoder.proofs.LawsShown.{told-header}
+use borrow.Author.Needs.{needs}
+use Rattle.decoder.proofs.sections.read_sections.Statement.{statement}
+use Rattle.decoder.proofs.sections.read_sections.Tie as tie
+
+abbrev Inv-loop : tie.InvT-loop
+Inv-loop «data» places₀ r₀ places r = Walk «data» (r₀ .pos) (r .pos) places
+
+abbrev μ-loop : tie.MeasureT-loop
+μ-loop «data» places₀ r₀ places r = length «data» - r .pos
+
+no-sections-requires : tie.Need-no-sections-requires Inv-loop μ-loop
+no-sections-requires c κs = search needs
+
+loop-holds : tie.Need-loop-holds Inv-loop μ-loop
+loop-holds c =
+    walk-start _ _ _ (c .no-sections .ensures)
+
+read-section-header-requires : tie.Need-read-section-header-requires Inv-loop μ-loop
+read-section-header-requires c κs = search needs
+
+enum-known-x : tie.Need-enum-known-x Inv-loop μ-loop
+enum-known-x c = search needs
+
+refused-walk-requires : tie.Need-refused-walk-requires Inv-loop μ-loop
+refused-walk-requires c κs = search needs
+
+enum-known-sh : tie.Need-enum-known-sh Inv-loop μ-loop
+enum-known-sh c = search needs
+
+read-bytes-requires : tie.Need-read-bytes-requires Inv-loop μ-loop
+read-bytes-requires c κs = search needs
+
+enum-known-x-2 : tie.Need-enum-known-x-2 Inv-loop μ-loop
+enum-known-x-2 c = search needs
+
+refused-walk-requires-2 : tie.Need-refused-walk-requires-2 Inv-loop μ-loop
+refused-walk-requires-2 c κs = search needs
+
+enum-known-at : tie.Need-enum-known-at Inv-loop μ-loop
+enum-known-at c = search needs
+
+insert-requires : tie.Need-insert-requires Inv-loop μ-loop
+insert-requires c κs = search needs
+
+loop-less : tie.Need-loop-less Inv-loop μ-loop
+loop-less c =
+    walk-less (c .before .before .before .before .before .before .before .before .before .before .before .loop .inv) _ _ (told-header (c .before .before .before .before .before .before .before .before .sh .given .1) (c .before .before .before .before .before .before .before .before .before .before .read-section-header .ensures)) (c .before .before .before .before .before .if1 .left) _ _ _ (told-bytes _ (c .before .before .at .given .1) (c .before .before .before .before .read-bytes .ensures))
+
+loop-again : tie.Need-loop-again Inv-loop μ-loop
+loop-again c =
+    walk-on (c .before .before .before .before .before .before .before .before .before .before .before .loop .inv) _ _ (told-header (c .before .before .before .before .before .before .before .before .sh .given .1) (c .before .before .before .before .before .before .before .before .before .before .read-section-header .ensures)) (c .before .before .before .before .before .if1 .left) _ _ _ (told-bytes _ (c .before .before .at .given .1) (c .before .before .before .before .read-bytes .ensures)) _ (c .insert .ensures)
+
+returns : tie.Need-returns Inv-loop μ-loop
+returns c =
+    c .refused-walk .ensures ∙ ap rawSections (sym (walk-refused (c .before .before .before .before .before .loop .inv) _ _ (item-no-header _ _ _ _ (told-header (c .before .before .x .given .1) (c .before .before .before .before .read-section-header .ensures)))))
+
+returns-2 : tie.Need-returns-2 Inv-loop μ-loop
+returns-2 c =
+    let w = c .before .before .before .before .before .before .loop .inv in
+    rw (walk-ended w _ (item-end _ _ _ _ (told-header (c .before .before .before .sh .given .1) (c .before .before .before .before .before .read-section-header .ensures)) (c .if1 .taken)), w .places)
+
+returns-3 : tie.Need-returns-3 Inv-loop μ-loop
+returns-3 c =
+    c .refused-walk2 .ensures ∙ ap rawSections (sym (walk-refused (c .before .before .before .before .before .before .before .before .before .before .before .loop .inv) _ _ (item-short _ _ _ _ (told-header (c .before .before .before .before .before .before .before .before .sh .given .1) (c .before .before .before .before .before .before .before .before .before .before .read-section-header .ensures)) (c .before .before .before .before .before .if1 .left) _ _ (told-bytes _ (c .before .before .x2 .given .1) (c .before .before .before .before .read-bytes .ensures)))))
+
+pub read-sections-spec : {M : Type 1} → statement M
+read-sections-spec =
+    tie.close
+    (tie.spec
+    Inv-loop
+    μ-loop
+    no-sections-requires
+    loop-holds
+    read-section-header-requires
+    enum-known-x
+    refused-walk-requires
+    enum-known-sh
+    read-bytes-requires
+    enum-known-x-2
+    refused-walk-requires-2
+    enum-known-at
+    insert-requires
+    loop-less
+    loop-again
+    returns
+    returns-2
+    returns-3)
