@@ -13,7 +13,9 @@ use Rattle.enums.specs.Container.{endOfBytecode}
 use Rattle.reading.specs.Numbers.{placed}
 use Rattle.format.specs.Sections.{Section}
 use Rattle.format.specs.DecodeContainer.{itemAt, sectionsAt}
-use Rattle.format.proofs.LawsWalk.{walkFrom, walk-none, walk-marker, walk-section, walk-stop}
+use Rattle.exact.specs.Joined.{joined}
+use Rattle.exact.proofs.LawsJoined.{joined-none}
+use Rattle.format.proofs.LawsWalk as walk
 use Rattle.decoder.specs.declared.sections.SectionPlace.{SectionPlace}
 use Rattle.decoder.specs.declared.sections.SectionHeader.{SectionHeader}
 use Rattle.decoder.specs.Container.{sectionHeaderAt, heldPlaces}
@@ -24,20 +26,20 @@ use Rattle.decoder.proofs.LawsItem.{sectionOf, header-in, item-got}
 pub record Walk (l : List ℕ) (from i : ℕ) (ps : List SectionPlace) : Type 0 where
   pub done : List Section
   pub places : ps ≡ heldPlaces done
-  pub model : sectionsAt l from ≡ walkFrom done l i
+  pub model : sectionsAt l from ≡ joined done (sectionsAt l i)
 
 -- Before the first turn.
 pub walk-start : (l : List ℕ) (from : ℕ) (ps : List SectionPlace) → ps ≡ heldPlaces [] → Walk l from from ps
-walk-start l from ps e = record { done = []; places = e; model = sym (walk-none l from) }
+walk-start l from ps e = record { done = []; places = e; model = sym (joined-none (sectionsAt l from)) }
 
 module _ {l : List ℕ} {from i : ℕ} {ps : List SectionPlace} (w : Walk l from i ps) where
   -- The walk is refused.
   pub walk-refused : (c k : ℕ) → itemAt l i ≡ stop c k → sectionsAt l from ≡ stop c k
-  walk-refused c k e = w .model ∙ walk-stop (w .done) l i c k e
+  walk-refused c k e = w .model ∙ walk.walk-refused (w .done) l i c k e
 
   -- It reaches the end marker.
   pub walk-ended : (j : ℕ) → itemAt l i ≡ got none j → sectionsAt l from ≡ got (w .done) j
-  walk-ended j e = w .model ∙ walk-marker (w .done) l i j e
+  walk-ended j e = w .model ∙ walk.walk-marker (w .done) l i j e
 
   -- What the code knows of a section that it meets: its header, and where its payload stands.
   module _ (h : SectionHeader) (j : ℕ) (e : sectionHeaderAt l i ≡ got h j) (not : ¬ (h .id ≡ endOfBytecode)) (start : ℕ)
@@ -58,5 +60,5 @@ module _ {l : List ℕ} {from i : ℕ} {ps : List SectionPlace} (w : Walk l from
         record {
           done = w .done ++ (sectionOf h start bs ∷ []);
           places = k ∙ ap (λ x. set x (h .id) (placeIn (sectionOf h start bs))) (w .places) ∙ held-more (w .done) (sectionOf h start bs);
-          model = w .model ∙ walk-section (w .done) l i (sectionOf h start bs) next item;
+          model = w .model ∙ walk.walk-section (w .done) l i (sectionOf h start bs) next item;
         }

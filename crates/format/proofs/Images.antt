@@ -72,7 +72,7 @@ use Rattle.format.specs.Image.{
 use Rattle.format.proofs.LawsImageItems.{all-both, all-zip, all-unmap, fixed-of}
 use Rattle.format.proofs.LawsImageTypes.{GoodType, type-of}
 use Rattle.format.proofs.LawsImageRows.{each-of, GoodGlobal, globals-of, GoodFunction, functions-of, GoodAttribute, debug-of}
-use Rattle.format.proofs.LawsImageSections.{sectionsFrom, laid-out, Stands, stands-among}
+use Rattle.format.proofs.LawsImageSections.{sectionsFrom, laid-out, StandsFor, stands-among}
 use Rattle.format.proofs.LawsImageSizes.{parts-small, sums-below, debug-le, back-le}
 use Rattle.format.proofs.LawsImageParts.{
   said-yes,
@@ -131,7 +131,7 @@ module _ (t : Tables) (s : Sound t) (n : length (image t) ≤ mostBytes) where
   abbrev behind : ℕ → List Part
   behind k = drop (k + 1) (partsOf t)
 
-  strings-stand : (i : ℕ) → Stands stringId (sectionsFrom i (partsOf t)) Strings noRows (λ r. r .values) (t .strings)
+  strings-stand : (i : ℕ) → StandsFor stringId (sectionsFrom i (partsOf t)) Strings noRows (λ r. r .values) (t .strings)
   unfolding partsOf stringPart producerPart typePart constantPart globalPart functionPart debugPart all? both? not? ℕ-discrete frameOf
   strings-stand =
       stands-among Strings noRows (λ r. r .values) (t .strings) (before 0) (stringPart (t .strings)) (behind 0)
@@ -140,7 +140,7 @@ module _ (t : Tables) (s : Sound t) (n : length (image t) ≤ mostBytes) where
       (λ e o. table-of 4 4 o (t .strings) (t .strings) (omega arith) (rw (← length-map (t .strings) length) (fits .strings))
       (rows-some (t .strings) e) (small .0 e) (whole-each (t .strings)))
 
-  producer-stands : (i : ℕ) → Stands producerId (sectionsFrom i (partsOf t)) (λ o. Producer (length (t .strings))) none (λ p. p) (t .producer)
+  producer-stands : (i : ℕ) → StandsFor producerId (sectionsFrom i (partsOf t)) (λ o. Producer (length (t .strings))) none (λ p. p) (t .producer)
   unfolding partsOf stringPart producerPart typePart constantPart globalPart functionPart debugPart all? both? not? ℕ-discrete frameOf
   producer-stands =
       stands-among (λ o. Producer (length (t .strings))) none (λ p. p) (t .producer) (before 1) (producerPart (t .producer)) (behind 1)
@@ -149,7 +149,7 @@ module _ (t : Tables) (s : Sound t) (n : length (image t) ≤ mostBytes) where
       (named-producer (t .producer) (length (t .strings)) (subst (Inside (t .producer)) (length-map (t .strings) length) (s .frame .producer))
       (fits .producer))
 
-  types-stand : (i : ℕ) → Stands typeId (sectionsFrom i (partsOf t)) (Types (class (t .version))) [] (λ v. v) (t .types)
+  types-stand : (i : ℕ) → StandsFor typeId (sectionsFrom i (partsOf t)) (Types (class (t .version))) [] (λ v. v) (t .types)
   unfolding partsOf stringPart producerPart typePart constantPart globalPart functionPart debugPart all? both? not? ℕ-discrete frameOf typeWords
   types-stand =
       let c = class (t .version) in
@@ -163,7 +163,7 @@ module _ (t : Tables) (s : Sound t) (n : length (image t) ≤ mostBytes) where
       (small .1 .1 .0 e) (each-of (TypeEntry c) (typeBytes c) (GoodType c) (type-of c) (t .types) good) in
       (r .0 .values, of (r .1), r .2))
 
-  constants-stand : (i : ℕ) → Stands constantId (sectionsFrom i (partsOf t)) Constants noRows (λ r. r .values) (t .constants)
+  constants-stand : (i : ℕ) → StandsFor constantId (sectionsFrom i (partsOf t)) Constants noRows (λ r. r .values) (t .constants)
   unfolding partsOf stringPart producerPart typePart constantPart globalPart functionPart debugPart all? both? not? ℕ-discrete frameOf
   constants-stand =
       stands-among Constants noRows (λ r. r .values) (t .constants) (before 3) (constantPart (t .constants)) (behind 3)
@@ -172,7 +172,7 @@ module _ (t : Tables) (s : Sound t) (n : length (image t) ≤ mostBytes) where
       (λ e o. table-of 8 8 o (t .constants) (t .constants) (omega arith) (rw (← length-map (t .constants) length) (fits .constants))
       (rows-some (t .constants) e) (small .1 .1 .1 .0 e) (whole-each (t .constants)))
 
-  globals-stand : (i : ℕ) → Stands globalId (sectionsFrom i (partsOf t)) (Globals (class (t .version))) [] (λ v. v) (t .globals)
+  globals-stand : (i : ℕ) → StandsFor globalId (sectionsFrom i (partsOf t)) (Globals (class (t .version))) [] (λ v. v) (t .globals)
   unfolding partsOf stringPart producerPart typePart constantPart globalPart functionPart debugPart all? both? not? ℕ-discrete frameOf
   globals-stand =
       let c = class (t .version) in
@@ -182,7 +182,7 @@ module _ (t : Tables) (s : Sound t) (n : length (image t) ≤ mostBytes) where
       (said-yes (noId? globalId (before 4)) tt) (said-yes (noId? globalId (behind 4)) tt)
       (rows-none (t .globals)) (λ e o. (t .globals, globals-of c o (t .globals) (fits .globals) good, refl))
 
-  functions-stand : (i : ℕ) → Stands funcId (sectionsFrom i (partsOf t)) Functions noRows (λ r. r .values) (t .functions)
+  functions-stand : (i : ℕ) → StandsFor funcId (sectionsFrom i (partsOf t)) Functions noRows (λ r. r .values) (t .functions)
   unfolding partsOf stringPart producerPart typePart constantPart globalPart functionPart debugPart all? both? not? ℕ-discrete frameOf
   functions-stand =
       let good = all-zip (λ f. All (Fits 64) (functionWords (functionRowOf f))) (λ f. SoundFunction (functionRowOf f)) GoodFunction
@@ -196,7 +196,7 @@ module _ (t : Tables) (s : Sound t) (n : length (image t) ≤ mostBytes) where
       let r = functions-of o (t .functions) (rw (← length-map (t .functions) functionRowOf) (fits .functions)) good in
       (record { at = r .0; values = t .functions }, r .1, refl))
 
-  debug-stands : (i : ℕ) → Stands debugId (sectionsFrom i (partsOf t)) (λ o. Debug) noDebug (λ v. v)
+  debug-stands : (i : ℕ) → StandsFor debugId (sectionsFrom i (partsOf t)) (λ o. Debug) noDebug (λ v. v)
       (record { attributes = t .attributes; lists = t .lists })
   unfolding partsOf stringPart producerPart typePart constantPart globalPart functionPart debugPart all? both? not? ℕ-discrete frameOf
   debug-stands =
@@ -227,12 +227,12 @@ unfolding headerBytes bytesOf
 header-length v = refl
 
 -- The section stands for the very value.
-very : {A : Type 0} {id : ℕ} {ss : List Section} {R : ℕ → ℕ → List ℕ → A → Type 0} {e b : A} → Stands id ss R e (λ v. v) b → Payload id ss R e b
+very : {A : Type 0} {id : ℕ} {ss : List Section} {R : ℕ → ℕ → List ℕ → A → Type 0} {e b : A} → StandsFor id ss R e (λ v. v) b → Payload id ss R e b
 very {id = id} {ss} {R} {e} x = subst (Payload id ss R e) (x .shown) (x .payload)
 
 -- The section stands for these rows, at some places.
 rowed : {A : Type 0} {id : ℕ} {ss : List Section} {R : ℕ → ℕ → List ℕ → Rows A → Type 0} {e : Rows A} {b : List A} →
-    (x : Stands id ss R e (λ r. r .values) b) → Payload id ss R e (record { at = x .value .at; values = b })
+    (x : StandsFor id ss R e (λ r. r .values) b) → Payload id ss R e (record { at = x .value .at; values = b })
 rowed {id = id} {ss} {R} {e} x = subst (λ vs. Payload id ss R e (record { at = x .value .at; values = vs })) (x .shown) (x .payload)
 
 -- The image of well-formed tables stands for them.

@@ -110,7 +110,7 @@ missing-of id i (s ∷ ps) h = go (λ j. missing-of id j ps (h .1)) (s .present)
     go rest false = rest i
 
 -- The section with this id stands for a value that shows b.
-pub record Stands {A B : Type 0} (id : ℕ) (ss : List Section) (R : ℕ → ℕ → List ℕ → A → Type 0) (e : A) (shows : A → B) (b : B) :
+pub record StandsFor {A B : Type 0} (id : ℕ) (ss : List Section) (R : ℕ → ℕ → List ℕ → A → Type 0) (e : A) (shows : A → B) (b : B) :
     Type 0 where
   pub value : A
   pub payload : Payload id ss R e value
@@ -130,11 +130,11 @@ module _ {A B : Type 0} (R : ℕ → ℕ → List ℕ → A → Type 0) (e : A) 
 
   -- A part with another id stands before it ..
   pub stands-behind : (id : ℕ) (s : Part) (ps : List Part) → ¬ (s .id ≡ id) →
-      ((j : ℕ) → Stands id (sectionsFrom j ps) R e shows b) → (i : ℕ) → Stands id (sectionsFrom i (s ∷ ps)) R e shows b
+      ((j : ℕ) → StandsFor id (sectionsFrom j ps) R e shows b) → (i : ℕ) → StandsFor id (sectionsFrom i (s ∷ ps)) R e shows b
   stands-behind id s ps n r i = go (s .present)
     where
       go : (w : Bool) →
-          Stands id (cond w (sectionFrom i s ∷ sectionsFrom (i + length (partBytes i s)) ps) (sectionsFrom i ps)) R e shows b
+          StandsFor id (cond w (sectionFrom i s ∷ sectionsFrom (i + length (partBytes i s)) ps) (sectionsFrom i ps)) R e shows b
       go true =
           let x = r (i + length (partBytes i s)) in
           record { value = x .value; payload = behind id (sectionFrom i s) _ (x .value) n (x .payload); shown = x .shown }
@@ -143,11 +143,11 @@ module _ {A B : Type 0} (R : ℕ → ℕ → List ℕ → A → Type 0) (e : A) 
   -- .. or it stands here, if it is written, before parts with other ids.
   pub stands-here : (s : Part) (ps : List Part) → NoId (s .id) ps → (s .present ≡ false → shows e ≡ b) →
       (s .present ≡ true → (o : ℕ) → (v : A) × R o 0 (s .payload) v × (shows v ≡ b)) → (i : ℕ) →
-      Stands (s .id) (sectionsFrom i (s ∷ ps)) R e shows b
+      StandsFor (s .id) (sectionsFrom i (s ∷ ps)) R e shows b
   stands-here s ps n f t i = go (s .present) f t
     where
       go : (w : Bool) → (w ≡ false → shows e ≡ b) → (w ≡ true → (o : ℕ) → (v : A) × R o 0 (s .payload) v × (shows v ≡ b)) →
-          Stands (s .id) (cond w (sectionFrom i s ∷ sectionsFrom (i + length (partBytes i s)) ps) (sectionsFrom i ps)) R e shows b
+          StandsFor (s .id) (cond w (sectionFrom i s ∷ sectionsFrom (i + length (partBytes i s)) ps) (sectionsFrom i ps)) R e shows b
       go false f t = record { value = e; payload = absent (missing-of (s .id) i ps n); shown = f refl }
       go true f t =
           let r = t refl (sectionFrom i s .start) in
@@ -168,6 +168,6 @@ module _ {A B : Type 0} (R : ℕ → ℕ → List ℕ → A → Type 0) (e : A) 
   -- It stands among parts with other ids.
   pub stands-among : (ps : List Part) (s : Part) (qs : List Part) → NoId (s .id) ps → NoId (s .id) qs → (s .present ≡ false → shows e ≡ b) →
       (s .present ≡ true → (o : ℕ) → (v : A) × R o 0 (s .payload) v × (shows v ≡ b)) → (i : ℕ) →
-      Stands (s .id) (sectionsFrom i (ps ++ (s ∷ qs))) R e shows b
+      StandsFor (s .id) (sectionsFrom i (ps ++ (s ∷ qs))) R e shows b
   stands-among [] s qs n m f t = stands-here s qs m f t
   stands-among (p ∷ ps) s qs n m f t = stands-behind (s .id) p (ps ++ (s ∷ qs)) (n .0) (stands-among ps s qs (n .1) m f t)

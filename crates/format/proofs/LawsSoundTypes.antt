@@ -58,7 +58,9 @@ present-bit v a (inr e) = inr e
 fields-behind : (c : VersionClass) (t : ℕ) (bs : List ℕ) (r : TypeRow) → Fits 64 t → T.Fields c t bs r → Bytes bs → Behind c t (length bs) r
 unfolding fieldWords
 fields-behind c t bs r f (T.a-plain h) b = record { words = (f, tt); sound = h; size = omega arith }
-fields-behind c t bs r f (T.a-pointer e (T.Pointer.fields {flagsBytes = x} {elementBytes = y} {attributeBytes = z} {flags = p} {element = q} {attribute = a} i j k)) b =
+fields-behind c t bs r f (T.a-pointer e
+    (T.Pointer.fields {flagsBytes = x} {elementBytes = y} {attributeBytes = z} {flags = p} {element = q}
+    {attribute = a} i j k)) b =
     let d = bytes-back y z (bytes-back x (y ++ z) b) in
     let m : Fits 8 a = byte-below z a k d in
     let w : Fits 64 a = omega arith in
@@ -67,14 +69,17 @@ fields-behind c t bs r f (T.a-pointer e (T.Pointer.fields {flagsBytes = x} {elem
       sound = (field-only x p i, (field-only z a k, m));
       size = omega (arith, length-append x (y ++ z), length-append y z, spells-some y q j);
     }
-fields-behind c t bs r f (T.a-tile e (T.Tile.fields {elementBytes = x} {dimsBytes = y} {dims = ds} {element = q} i j)) b =
+fields-behind c t bs r f (T.a-tile e
+    (T.Tile.fields {elementBytes = x} {dimsBytes = y} {dims = ds} {element = q} i j)) b =
     let l = array-listed 7 y ds j (bytes-back x y b) in
     record {
       words = (tag-word t _ f e, (spells-below x q i, (l .count, l .each)));
       sound = tt;
       size = omega (arith, length-append x y, spells-some x q i, l .size);
     }
-fields-behind c t bs r f (T.a-tensorView e (T.TensorView.fields {flagsBytes = x} {elementBytes = y} {shapeBytes = u} {stridesBytes = v} {attributeBytes = z} {shape = ss} {strides = ts} {flags = p} {element = q} {attribute = a} i j k l m)) b =
+fields-behind c t bs r f (T.a-tensorView e
+    (T.TensorView.fields {flagsBytes = x} {elementBytes = y} {shapeBytes = u} {stridesBytes = v}
+    {attributeBytes = z} {shape = ss} {strides = ts} {flags = p} {element = q} {attribute = a} i j k l m)) b =
     let b₁ = bytes-back x (y ++ (u ++ (v ++ z))) b in
     let b₂ = bytes-back y (u ++ (v ++ z)) b₁ in
     let b₃ = bytes-back u (v ++ z) b₂ in
@@ -96,7 +101,9 @@ fields-behind c t bs r f (T.a-tensorView e (T.TensorView.fields {flagsBytes = x}
       sound = (field-only x p i, (field-only z a m, g));
       size = simp length-append (omega (arith, spells-some y q j, s .size, o .size));
     }
-fields-behind c t bs r f (T.a-partitionView e h (T.PartitionView.fields {flagsBytes = x} {shapeBytes = u} {viewBytes = y} {mapBytes = v} {paddingBytes = z} {shape = ss} {map = ms} {flags = p} {view = q} {padding = a} i j k l m)) b =
+fields-behind c t bs r f (T.a-partitionView e h
+    (T.PartitionView.fields {flagsBytes = x} {shapeBytes = u} {viewBytes = y} {mapBytes = v} {paddingBytes = z}
+    {shape = ss} {map = ms} {flags = p} {view = q} {padding = a} i j k l m)) b =
     let b₁ = bytes-back x (u ++ (y ++ (v ++ z))) b in
     let b₂ = bytes-back y (v ++ z) (bytes-back u (y ++ (v ++ z)) b₁) in
     let s = array-listed 3 u ss j (bytes-front u (y ++ (v ++ z)) b₁) in
@@ -114,7 +121,9 @@ fields-behind c t bs r f (T.a-partitionView e h (T.PartitionView.fields {flagsBy
       sound = (inl h, s .each, o .each, field-only z a m, inr g);
       size = simp length-append (omega (arith, spells-some x p i, spells-some y q k, s .size, o .size));
     }
-fields-behind c t bs r f (T.an-oldPartitionView e h (T.OldPartitionView.fields {shapeBytes = u} {viewBytes = y} {mapBytes = v} {paddingBytes = z} {shape = ss} {map = ms} {view = q} {padding = a} j k l (truth-of (byte-of {b = p})) m)) b =
+fields-behind c t bs r f (T.an-oldPartitionView e h
+    (T.OldPartitionView.fields {shapeBytes = u} {viewBytes = y} {mapBytes = v} {paddingBytes = z} {shape = ss}
+    {map = ms} {view = q} {padding = a} j k l (truth-of (byte-of {b = p})) m)) b =
     let b₂ = bytes-back y (v ++ (p ∷ z)) (bytes-back u (y ++ (v ++ (p ∷ z))) b) in
     let s = array-listed 3 u ss j (bytes-front u (y ++ (v ++ (p ∷ z))) b) in
     let o = array-listed 3 v ms l (bytes-front v (p ∷ z) b₂) in
@@ -132,7 +141,9 @@ fields-behind c t bs r f (T.an-oldPartitionView e h (T.OldPartitionView.fields {
       sound = (inr g, s .each, o .each, present-bit (truth p) a (field-only z a m), inl (λ y. false≢true (sym h ∙ y)));
       size = simp length-append (omega (arith, spells-some y q k, s .size, o .size));
     }
-fields-behind c t bs r f (T.a-gatherScatterView e (T.GatherScatterView.fields {flagsBytes = x} {shapeBytes = u} {viewBytes = y} {sparseBytes = v} {paddingBytes = z} {shape = ss} {flags = p} {view = q} {sparse = d} {padding = a} i j k l m)) b =
+fields-behind c t bs r f (T.a-gatherScatterView e
+    (T.GatherScatterView.fields {flagsBytes = x} {shapeBytes = u} {viewBytes = y} {sparseBytes = v}
+    {paddingBytes = z} {shape = ss} {flags = p} {view = q} {sparse = d} {padding = a} i j k l m)) b =
     let b₁ = bytes-back x (u ++ (y ++ (v ++ z))) b in
     let b₃ = bytes-back v z (bytes-back y (v ++ z) (bytes-back u (y ++ (v ++ z)) b₁)) in
     let s = array-listed 3 u ss j (bytes-front u (y ++ (v ++ z)) b₁) in
@@ -149,7 +160,9 @@ fields-behind c t bs r f (T.a-gatherScatterView e (T.GatherScatterView.fields {f
       sound = (s .each, (field-only z a m, g));
       size = simp length-append (omega (arith, spells-some x p i, spells-some y q k, spells-some v d l, s .size));
     }
-fields-behind c t bs r f (T.a-stridedView e (T.StridedView.fields {flagsBytes = x} {shapeBytes = u} {stridesBytes = o} {viewBytes = y} {mapBytes = v} {paddingBytes = z} {shape = ss} {strides = ts} {map = ms} {flags = p} {view = q} {padding = a} i j k l m n)) b =
+fields-behind c t bs r f (T.a-stridedView e
+    (T.StridedView.fields {flagsBytes = x} {shapeBytes = u} {stridesBytes = o} {viewBytes = y} {mapBytes = v}
+    {paddingBytes = z} {shape = ss} {strides = ts} {map = ms} {flags = p} {view = q} {padding = a} i j k l m n)) b =
     let b₁ = bytes-back x (u ++ (o ++ (y ++ (v ++ z)))) b in
     let b₂ = bytes-back u (o ++ (y ++ (v ++ z))) b₁ in
     let b₄ = bytes-back y (v ++ z) (bytes-back o (y ++ (v ++ z)) b₂) in
@@ -170,7 +183,8 @@ fields-behind c t bs r f (T.a-stridedView e (T.StridedView.fields {flagsBytes = 
       sound = (s₁ .each, s₂ .each, s₃ .each, (field-only z a n, g));
       size = simp length-append (omega (arith, spells-some x p i, spells-some y q l, s₁ .size, s₂ .size, s₃ .size));
     }
-fields-behind c t bs r f (T.a-function e (T.FunctionType.fields {inputsBytes = x} {resultsBytes = y} {inputs = xs} {results = ys} i j)) b =
+fields-behind c t bs r f (T.a-function e
+    (T.FunctionType.fields {inputsBytes = x} {resultsBytes = y} {inputs = xs} {results = ys} i j)) b =
     let s = indices-listed x xs i in
     let o = indices-listed y ys j in
     record {

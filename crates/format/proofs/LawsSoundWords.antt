@@ -127,3 +127,10 @@ words-fit r h =
     (all-both (Fits 64) (join (map attributeWords (r .attributes))) _ (rows-join attributeWords (r .attributes) (h .attributes .each))
     (all-both (Fits 64) (join (map listWords (r .lists))) [] (rows-join listWords (r .lists) (h .lists .each)) tt)))))) in
     (a₁, (b₁, (c₁, (h .producer, (h .pool, all-both (Fits 64) (contents 19 (bodies r)) (join (map join (bodies r))) p q)))))
+
+-- And it has at most 2^36 of them.
+pub words-most : (r : Frame) → Moderate r → length (wordsOf r) ≤ 2 ^ 36
+unfolding wordsOf bodies contents
+words-most r h =
+    simp length-append
+    (omega (arith, h .strings .size, h .types .size, h .constants .size, h .globals .size, h .functions .size, h .attributes .size, h .lists .size))

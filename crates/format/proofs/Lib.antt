@@ -36,3 +36,7 @@ pub mod LawsSoundTypes
 pub mod LawsSoundTables
 pub mod LawsSoundWords
 pub mod Sounds
+pub mod LawsImageLength
+pub mod LawsStarts
+pub mod Writes
+pub mod FullCase

@@ -1,6 +1,6 @@
 -- Accepted tables are well-formed, for files of bytes. Assumes nothing.
 use mathlib.Core.Path.{_≡_, refl, ap, _∙_, subst}
-use Prim.Native.Nat.{ℕ, _+_, _≤_}
+use Prim.Native.Nat.{ℕ, _+_, _^_, _≤_}
 use native.Mathlib.Omega.{arith}
 use mathlib.Core.List.{List, [], _∷_, _++_, map}
 use mathlib.Core.Option.{Option, none}
@@ -34,7 +34,7 @@ use Rattle.format.proofs.LawsPool.{pool-length}
 use Rattle.format.proofs.LawsSoundItems.{Bytes, bytes-front, bytes-back, fixed-below}
 use Rattle.format.proofs.LawsSoundRows.{Sized, none-sized}
 use Rattle.format.proofs.LawsSoundTables.{Runs, runs-of-table, types-sized, globals-sized, functions-sized, GoodList, debug-sized}
-use Rattle.format.proofs.LawsSoundWords.{counted-fit, Fitted, lengths-fitted, Moderate, words-fit}
+use Rattle.format.proofs.LawsSoundWords.{counted-fit, Fitted, lengths-fitted, Moderate, words-fit, words-most}
 use Rattle.format.proofs.Decoded.{placed-sound, decode-sound}
 
 refused-not-accepted : {A : Type 0} {c n i : ℕ} {v : A} → refused c n i ≡ accepted v → ⊥
@@ -224,6 +224,11 @@ explained-sound file t x b l =
             attributes = all-then GoodAttribute SoundAttribute (λ r g. g .sound) (t .attributes) (f .attributes .each);
           };
     }
+
+-- The sheet of what it stands for has at most 2^36 words.
+pub sheet-length : (file : List ℕ) (t : Tables) → Explains file t → Bytes file → length file ≤ mostBytes → length (sheetOf t) ≤ 2 ^ 36
+unfolding sheetOf
+sheet-length file t x b l = words-most (frameOf t) (moderate t (found file t x b l))
 
 -- An accepted file is within the limit.
 within : (file : List ℕ) (t : Tables) (r : Read Placed) → placed file ≡ r → mapRead onlyTables r ≡ accepted t → length file ≤ mostBytes

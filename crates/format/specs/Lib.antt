@@ -22,3 +22,4 @@ pub mod DecodeDebug
 pub mod Decode
 pub mod Stands
 pub mod Views
+pub mod Write

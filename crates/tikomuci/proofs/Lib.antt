@@ -1,1 +1,2 @@
 pub mod LawsBoundary
+pub mod LawsViews

@@ -1,5 +1,6 @@
 // The exported calls: thin, over plain numbers and byte slices. Each contract is that of the crate below it, seen through
 // the answer struct; a refused call changes no lent memory.
+use decoder::ViewRead;
 use encoding::EncodingWriter;
 use encoding::FloatType;
 use encoding::Patched;
@@ -32,7 +33,9 @@ ghost use Rattle.encoding.specs.Signed.{zigzag, pattern};
 ghost use Rattle.encoding.specs.Varint.{spelling};
 ghost use Rattle.reading.specs.Numbers.{varintAt, signedVarintAt, signedAt, paddingAt, itemsAt, remainingAt, placed};
 ghost use Rattle.reading.specs.Shown.{gotByte, gotU16, gotU32, gotNum, gotI32, gotI64, gotBytes, gotPadding, gotItems};
+ghost use Rattle.decoder.specs.Views.{viewOf};
 ghost use Rattle.tikomuci.specs.Boundary.{accepted, refusedAs, Puts, Writes, WritesFloat, Patches, nextPlace, nextAligned, number, signedNumber, run, runOf, items, itemsOf, skipped};
+ghost use Rattle.tikomuci.specs.Views.{view, SectionViewed};
 
 // What every call that can be refused answers.
 #[repr(C)]
@@ -584,4 +587,27 @@ pub extern "C" fn tikomuci_remaining(data: &[u8], at: u64) -> u64
 {
     let reader = Reader { pos: at as usize };
     reader.remaining(data) as u64
+}
+
+// A view's answer: offset and length.
+fn viewed(v: ViewRead) -> Answer
+    ensures { λ a. ⌜ a ≡ view (viewOf v) ⌝ }
+{
+    match v {
+        ViewRead::Got(place) => Answer::accept(place.start as u64, place.len as u64),
+        ViewRead::Stop(stopped) => Answer {
+            refusal: stopped.no as u64,
+            stage: stopped.stage as u64,
+            first: 0,
+            second: 0,
+        },
+    }
+}
+
+// The payload that counts for a section id: `first` is its offset in the file, `second` its length.
+#[no_mangle]
+pub extern "C" fn tikomuci_section(file: &[u8], id: u64) -> Answer
+    ensures { λ r. ⌜ SectionViewed (now (file .entry)) id r ⌝ }
+{
+    viewed(decoder::section(file, id))
 }

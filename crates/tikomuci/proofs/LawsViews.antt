@@ -1,0 +1,22 @@
+-- A view answers what crate decoder answered; and any two answers that its contract allows are equal. Assumes nothing.
+use mathlib.Core.Path.{_≡_, sym, _∙_}
+use Prim.Native.Nat.{ℕ}
+use mathlib.Core.List.{List}
+use Rattle.decoder.specs.Views.{SectionPost, viewOf}
+use Rattle.decoder.specs.declared.ViewRead.{ViewRead}
+use Rattle.tikomuci.specs.declared.Answer.{Answer}
+use Rattle.tikomuci.specs.Views.{view, SectionViewed}
+use Rattle.tikomuci.proofs.LawsBoundary.{told}
+
+-- A section's view, shown.
+pub section-viewed : (file : List ℕ) (id : ℕ) (x : ViewRead) (r : Answer) → r ≡ view (viewOf x) → SectionPost file id x → SectionViewed file id r
+section-viewed file id x r e p =
+    record {
+      answer = told view e (p .answer);
+      sound = λ s h. p .sound s (p .answer ∙ h);
+      complete = λ s a n i. sym (p .answer) ∙ p .complete s a n i;
+    }
+
+-- Its contract allows one answer.
+pub section-viewed-only : {file : List ℕ} {id : ℕ} {r s : Answer} → SectionViewed file id r → SectionViewed file id s → r ≡ s
+section-viewed-only p q = p .answer ∙ sym (q .answer)

@@ -1,0 +1,23 @@
+-- What a view answers across the C boundary, and what it promises (document 01, "Refusal numbers").
+use mathlib.Core.Path.{_≡_}
+use Prim.Native.Nat.{ℕ, _≤_, _<_}
+use mathlib.Core.List.{List}
+use lib.ListN.{length}
+use Rattle.enums.specs.Container.{numSections}
+use Rattle.format.specs.Read.{Read, accepted, refused}
+use Rattle.format.specs.Decode.{mostBytes}
+use Rattle.format.specs.Views.{Span, sectionView}
+use Rattle.decoder.specs.Views.{SectionAt}
+use Rattle.tikomuci.specs.declared.Answer.{Answer}
+use Rattle.tikomuci.specs.Boundary as boundary
+
+-- Offset and length; or the refusal's number and its stage, and no other data.
+abbrev pub view : Read Span → Answer
+view (accepted s) = boundary.accepted (s .offset) (s .size)
+view (refused n stage at) = record { refusal = n; stage = stage; first = 0; second = 0 }
+
+-- The view of a section: it answers what the model answers, which is exactly the payload asked for.
+pub record SectionViewed (file : List ℕ) (id : ℕ) (r : Answer) : Type 0 where
+  pub answer : r ≡ view (sectionView file id)
+  pub sound : (s : Span) → sectionView file id ≡ accepted s → SectionAt file id s
+  pub complete : (s : Span) → SectionAt file id s → length file ≤ mostBytes → id < numSections → sectionView file id ≡ accepted s
