@@ -1,0 +1,95 @@
+# make demo: prove, build the library, and see it used from C++.
+# make test: what the gate runs: everything is proved from nothing, and the tests of the hosts.
+# make bench: our calls beside encoding.rs and decoder.rs.
+
+SHELL := bash
+.SHELLFLAGS := -euo pipefail -c
+.DELETE_ON_ERROR:
+.PHONY: help demo test bench verdict library cpp-tests reader-tests comparison lint clean
+
+include tools/machine.mk
+
+# The Rust that was carried over: a folder `docs/src` beside the repository. A clone that stands alone has none.
+RUST_SOURCE ?= ../shared/docs/src
+HAS_RUST := $(wildcard $(RUST_SOURCE)/src/bytecode/encoding.rs)
+export TIKOMUCI_RUST_SOURCE := $(abspath $(RUST_SOURCE))
+
+LIBRARY := target/staticlib/libtikomuci.a
+WARNINGS := -Wall -Wextra -Werror -pedantic -Wshadow -Wconversion
+CFLAGS := -std=c99 -O2 $(WARNINGS) -Iinclude
+CXXFLAGS := -std=c++20 -O2 $(WARNINGS) -Iinclude
+CARGO := cargo
+IN_RUST := --manifest-path hosts/rust/Cargo.toml --locked --quiet
+
+help:
+	@sed -n 's/^# \(make .*\)/\1/p' Makefile
+
+demo:
+	rt check
+	$(MAKE) --no-print-directory library build/demo
+	$(RUN) build/demo
+
+test:
+	tools/timed "proofs, must-fail edits and programs" $(MAKE) --no-print-directory verdict
+	tools/timed "static library" $(MAKE) --no-print-directory library
+	tools/timed "C++ tests" $(MAKE) --no-print-directory cpp-tests
+	tools/timed "reader tests" $(MAKE) --no-print-directory reader-tests
+	tools/timed "comparison with the Rust" $(MAKE) --no-print-directory comparison
+
+# The verdict is kept outside target/, which rt ci removes.
+verdict:
+	@mkdir -p build
+	rt ci 2>&1 | tee build/ci.log
+
+library:
+	@mkdir -p build
+	rt staticlib tikomuci >build/staticlib.log 2>&1 || { cat build/staticlib.log; exit 1; }
+
+cpp-tests: build/tests
+	$(CXX) -std=c++11 $(WARNINGS) -fsyntax-only -x c++ include/tikomuci.h
+	$(RUN) build/tests
+
+reader-tests:
+	$(CARGO) test $(IN_RUST) --release --package boundary --test readers
+
+comparison:
+ifneq ($(HAS_RUST),)
+	$(CARGO) run $(IN_RUST) --release --package differential -- $(SEED)
+else ifeq ($(CI),true)
+	@echo "no Rust source at $(RUST_SOURCE): with CI=true the comparison may not be left out" >&2; exit 1
+else
+	@echo "no Rust source at $(RUST_SOURCE): the comparison with encoding.rs and decoder.rs was LEFT OUT"
+endif
+
+bench: library
+ifneq ($(HAS_RUST),)
+	$(CARGO) run $(IN_RUST) --release --package bench
+else
+	@echo "no Rust source at $(RUST_SOURCE): there is nothing to measure against" >&2; exit 1
+endif
+
+lint:
+	rt fmt --check
+	clang-format --dry-run -Werror include/* hosts/cpp/*
+	cargo fmt --manifest-path hosts/rust/Cargo.toml --all --check
+	env -u RUSTC -u CARGO_BUILD_TARGET $(CARGO) clippy $(IN_RUST) --workspace --all-targets -- -D warnings
+
+clean:
+	rm -rf target build
+
+$(LIBRARY):
+	$(MAKE) --no-print-directory library
+
+build/demo: build/demo.o $(LIBRARY)
+	$(CXX) $^ -o $@
+
+build/tests: build/tests.o build/header.o $(LIBRARY)
+	$(CXX) $^ -o $@
+
+build/%.o: hosts/cpp/%.cpp include/tikomuci.hpp include/tikomuci.h
+	@mkdir -p build
+	$(CXX) $(CXXFLAGS) -c $< -o $@
+
+build/header.o: hosts/cpp/header.c include/tikomuci.h
+	@mkdir -p build
+	$(CC) $(CFLAGS) -c $< -o $@

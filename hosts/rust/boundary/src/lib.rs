@@ -1,0 +1,129 @@
+//! The calls of include/tikomuci.h, over slices.
+
+/// What a call answers, as tikomuci.h says.
+#[repr(C)]
+#[derive(Debug, Clone, Copy, Default, PartialEq, Eq)]
+pub struct Answer {
+    pub refusal: u64,
+    pub stage: u64,
+    pub first: u64,
+    pub second: u64,
+}
+
+impl Answer {
+    /// A refusal of a call that reads no container: it stands at stage 10 and has no other data.
+    pub const fn refused(refusal: u64) -> Self {
+        Self { refusal, stage: STAGE_CALL, first: 0, second: 0 }
+    }
+
+    pub const fn accepted(first: u64, second: u64) -> Self {
+        Self { refusal: 0, stage: 0, first, second }
+    }
+}
+
+pub const SHORT: u64 = 2;
+pub const OVERLONG: u64 = 3;
+pub const PADDING: u64 = 5;
+pub const FULL: u64 = 11;
+pub const ABSENT: u64 = 14;
+pub const STAGE_CALL: u64 = 10;
+
+/// Calls that write plain numbers at a place of an output.
+macro_rules! writers {
+    ($($name:ident = $call:ident($($value:ident: $kind:ty),*);)*) => {
+        extern "C" {
+            $(fn $call(out: *mut u8, len: usize, at: u64, $($value: $kind),*) -> Answer;)*
+        }
+        $(pub fn $name(out: &mut [u8], at: u64, $($value: $kind),*) -> Answer {
+            // SAFETY: the pointer and the length are those of a slice that is ours alone until the call returns.
+            unsafe { $call(out.as_mut_ptr(), out.len(), at, $($value),*) }
+        })*
+    };
+}
+
+/// Calls that write the elements of a slice at a place of an output.
+macro_rules! slice_writers {
+    ($($name:ident = $call:ident($kind:ty);)*) => {
+        extern "C" {
+            $(fn $call(out: *mut u8, len: usize, at: u64, values: *const $kind, count: usize) -> Answer;)*
+        }
+        $(pub fn $name(out: &mut [u8], at: u64, values: &[$kind]) -> Answer {
+            // SAFETY: as above; a `&mut` slice and a `&` slice do not overlap.
+            unsafe { $call(out.as_mut_ptr(), out.len(), at, values.as_ptr(), values.len()) }
+        })*
+    };
+}
+
+/// Calls that read at a place of the data.
+macro_rules! readers {
+    ($($name:ident = $call:ident($($value:ident: $kind:ty),*) -> $answer:ty;)*) => {
+        extern "C" {
+            $(fn $call(data: *const u8, len: usize, at: u64, $($value: $kind),*) -> $answer;)*
+        }
+        $(pub fn $name(data: &[u8], at: u64, $($value: $kind),*) -> $answer {
+            // SAFETY: the pointer and the length are those of a slice that nobody changes until the call returns.
+            unsafe { $call(data.as_ptr(), data.len(), at, $($value),*) }
+        })*
+    };
+}
+
+/// Calls on a number alone.
+macro_rules! conversions {
+    ($($name:ident = $call:ident;)*) => {
+        extern "C" {
+            $(fn $call(f64_bits: u64) -> u8;)*
+        }
+        $(pub fn $name(f64_bits: u64) -> u8 {
+            // SAFETY: the call takes a number and lends nothing.
+            unsafe { $call(f64_bits) }
+        })*
+    };
+}
+
+writers! {
+    write_byte = tikomuci_write_byte(value: u8);
+    write_varint = tikomuci_write_varint(value: u64);
+    write_signed_varint = tikomuci_write_signed_varint(value: i64);
+    write_le_u8 = tikomuci_write_le_u8(value: u8);
+    write_le_u16 = tikomuci_write_le_u16(value: u16);
+    write_le_u32 = tikomuci_write_le_u32(value: u32);
+    write_le_u64 = tikomuci_write_le_u64(value: u64);
+    write_le_i32 = tikomuci_write_le_i32(value: i32);
+    write_le_i64 = tikomuci_write_le_i64(value: i64);
+    write_le_f32 = tikomuci_write_le_f32(bits: u32);
+    write_le_f64 = tikomuci_write_le_f64(bits: u64);
+    write_ap_float_f64 = tikomuci_write_ap_float_f64(f64_bits: u64);
+    write_ap_float_f8e4m3fn = tikomuci_write_ap_float_f8e4m3fn(f64_bits: u64);
+    write_ap_float_f8e5m2 = tikomuci_write_ap_float_f8e5m2(f64_bits: u64);
+    align_to = tikomuci_align_to(required_alignment: u64, alignment: u64);
+    patch_u32 = tikomuci_patch_u32(value: u32);
+    patch_u64 = tikomuci_patch_u64(value: u64);
+}
+
+slice_writers! {
+    write_bytes = tikomuci_write_bytes(u8);
+    write_le_var_size_i32 = tikomuci_write_le_var_size_i32(i32);
+    write_le_var_size_i64 = tikomuci_write_le_var_size_i64(i64);
+}
+
+readers! {
+    read_byte = tikomuci_read_byte() -> Answer;
+    read_bytes = tikomuci_read_bytes(n: u64) -> Answer;
+    read_varint = tikomuci_read_varint() -> Answer;
+    read_signed_varint = tikomuci_read_signed_varint() -> Answer;
+    read_le_u8 = tikomuci_read_le_u8() -> Answer;
+    read_le_u16 = tikomuci_read_le_u16() -> Answer;
+    read_le_u32 = tikomuci_read_le_u32() -> Answer;
+    read_le_u64 = tikomuci_read_le_u64() -> Answer;
+    read_le_i32 = tikomuci_read_le_i32() -> Answer;
+    read_le_i64 = tikomuci_read_le_i64() -> Answer;
+    skip_padding = tikomuci_skip_padding(alignment: u64) -> Answer;
+    read_le_var_size_i32 = tikomuci_read_le_var_size_i32() -> Answer;
+    read_le_var_size_i64 = tikomuci_read_le_var_size_i64() -> Answer;
+    remaining = tikomuci_remaining() -> u64;
+}
+
+conversions! {
+    f8e4m3fn = tikomuci_f8e4m3fn;
+    f8e5m2 = tikomuci_f8e5m2;
+}

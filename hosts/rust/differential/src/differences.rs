@@ -1,0 +1,64 @@
+//! The intended differences of docs/DIFFERENCES.md at their smallest inputs: the Rust does what is said there, and ours
+//! answers instead.
+
+use std::panic::{catch_unwind, set_hook, take_hook, AssertUnwindSafe};
+
+use boundary::{Answer, ABSENT, FULL, SHORT};
+use oracle::bytecode::decoder::window::Reader;
+use oracle::bytecode::encoding::{patch_u32, patch_u64, EncodingWriter};
+
+use crate::tally::Tally;
+
+fn panics<T>(work: impl FnOnce() -> T) -> bool {
+    catch_unwind(AssertUnwindSafe(work)).is_err()
+}
+
+/// The Rust's output grows; ours is lent and is full.
+fn output_too_small() -> bool {
+    let mut writer = EncodingWriter::new();
+    writer.write_byte(0);
+    writer.as_bytes() == [0] && boundary::write_byte(&mut [], 0, 0) == Answer::refused(FULL)
+}
+
+fn patch_outside() -> bool {
+    panics(|| patch_u32(&mut [], 0, 0))
+        && panics(|| patch_u64(&mut [], 0, 0))
+        && boundary::patch_u32(&mut [], 0, 0) == Answer::refused(ABSENT)
+        && boundary::patch_u64(&mut [], 0, 0) == Answer::refused(ABSENT)
+}
+
+fn patch_whose_end_wraps() -> bool {
+    panics(|| patch_u32(&mut [], usize::MAX, 0)) && boundary::patch_u32(&mut [], u64::MAX, 0) == Answer::refused(ABSENT)
+}
+
+fn run_whose_end_wraps() -> bool {
+    panics(|| Reader::at(&[0], 1).read_bytes(usize::MAX).is_ok())
+        && boundary::read_bytes(&[0], 1, u64::MAX) == Answer::refused(SHORT)
+}
+
+/// Built without overflow checks, the Rust answers 2^64 - 1.
+fn remaining_past_the_end() -> bool {
+    !matches!(catch_unwind(|| Reader::at(&[], 1).remaining()), Ok(0)) && boundary::remaining(&[], 1) == 0
+}
+
+type Difference = (&'static str, fn() -> bool);
+
+const DIFFERENCES: [Difference; 5] = [
+    ("an output that is too small", output_too_small),
+    ("a patch outside the buffer", patch_outside),
+    ("a patch whose end wraps", patch_whose_end_wraps),
+    ("a run of bytes whose end wraps", run_whose_end_wraps),
+    ("what remains past the end", remaining_past_the_end),
+];
+
+pub fn compare(add: &mut impl FnMut(Tally)) {
+    println!("intended differences:");
+    let mut tally = Tally::new("as docs/DIFFERENCES.md says");
+    let loud = take_hook();
+    set_hook(Box::new(|_| {}));
+    for (what, holds) in DIFFERENCES {
+        tally.case(holds(), [0; 3], || format!("{what} is not as docs/DIFFERENCES.md says"));
+    }
+    set_hook(loud);
+    add(tally);
+}

@@ -1,0 +1,143 @@
+/*
+ * tikomuci.h: the calls of the Tikomuci library, for C99 and C++.
+ *
+ * Nothing is allocated and nothing is kept between calls. Each call takes what it is lent as a pointer and a length,
+ * gets an answer for every input, and changes no lent memory if it refuses. Spans that are lent to one call may not
+ * overlap. A pointer may be null if its length is 0.
+ */
+#ifndef TIKOMUCI_H
+#define TIKOMUCI_H
+
+#include <stddef.h>
+#include <stdint.h>
+
+#ifdef __cplusplus
+extern "C" {
+#endif
+
+/* What a call answers. */
+typedef struct {
+    uint64_t refusal; /* 0 if the call was accepted, else one of the numbers below */
+    uint64_t stage;   /* of a refusal; else 0 */
+    uint64_t first;   /* of an acceptance, see each call; else 0 */
+    uint64_t second;  /* of an acceptance, see each call; else 0 */
+} tikomuci_answer;
+
+/* The refusal numbers. The calls of this header give 2, 3, 5, 11 and 14. */
+enum {
+    TIKOMUCI_REFUSAL_LIMIT = 1,     /* file, image, pool or sheet over its limit */
+    TIKOMUCI_REFUSAL_SHORT = 2,     /* the data ends inside an item */
+    TIKOMUCI_REFUSAL_OVERLONG = 3,  /* varint past its tenth byte */
+    TIKOMUCI_REFUSAL_MAGIC = 4,     /* wrong magic */
+    TIKOMUCI_REFUSAL_PADDING = 5,   /* a padding byte is not 0xCB */
+    TIKOMUCI_REFUSAL_BOUNDS = 6,    /* start after end, end outside, or an empty debug attribute */
+    TIKOMUCI_REFUSAL_PRODUCER = 7,  /* producer index outside */
+    TIKOMUCI_REFUSAL_TYPE_TAG = 8,  /* type tag unknown, or above 255 */
+    TIKOMUCI_REFUSAL_DEBUG_TAG = 9, /* debug tag unknown */
+    TIKOMUCI_REFUSAL_HINTS = 10,    /* hints flag */
+    TIKOMUCI_REFUSAL_FULL = 11,     /* a store or output is smaller than the result */
+    TIKOMUCI_REFUSAL_SHEET = 12,    /* sheet not well-formed */
+    TIKOMUCI_REFUSAL_START = 13,    /* a u32 start does not fit */
+    TIKOMUCI_REFUSAL_ABSENT = 14    /* asked index or section not there; patch outside */
+};
+
+/* The stage of a refusal by a call that reads no container, as every call of this header. */
+enum { TIKOMUCI_STAGE_CALL = 10 };
+
+/*
+ * Writers: each writes at the place `at` of an output of `len` bytes. `first` is the next place. A result that does not
+ * fit is refused (11), and so is a place past the output; the bytes before and after the result stay.
+ */
+
+/* One byte. */
+tikomuci_answer tikomuci_write_byte(uint8_t *out, size_t len, uint64_t at, uint8_t value);
+
+/* The `data_len` bytes of `data`. */
+tikomuci_answer tikomuci_write_bytes(uint8_t *out, size_t len, uint64_t at, const uint8_t *data, size_t data_len);
+
+/* A varint in its shortest spelling: seven bits a byte, low first, the top bit means more. */
+tikomuci_answer tikomuci_write_varint(uint8_t *out, size_t len, uint64_t at, uint64_t value);
+
+/* A signed varint: the zigzag of the value as a varint. */
+tikomuci_answer tikomuci_write_signed_varint(uint8_t *out, size_t len, uint64_t at, int64_t value);
+
+/* Numbers of a fixed width, little-endian. */
+tikomuci_answer tikomuci_write_le_u8(uint8_t *out, size_t len, uint64_t at, uint8_t value);
+tikomuci_answer tikomuci_write_le_u16(uint8_t *out, size_t len, uint64_t at, uint16_t value);
+tikomuci_answer tikomuci_write_le_u32(uint8_t *out, size_t len, uint64_t at, uint32_t value);
+tikomuci_answer tikomuci_write_le_u64(uint8_t *out, size_t len, uint64_t at, uint64_t value);
+tikomuci_answer tikomuci_write_le_i32(uint8_t *out, size_t len, uint64_t at, int32_t value);
+tikomuci_answer tikomuci_write_le_i64(uint8_t *out, size_t len, uint64_t at, int64_t value);
+
+/* Floats by their bits, little-endian. */
+tikomuci_answer tikomuci_write_le_f32(uint8_t *out, size_t len, uint64_t at, uint32_t bits);
+tikomuci_answer tikomuci_write_le_f64(uint8_t *out, size_t len, uint64_t at, uint64_t bits);
+
+/* A float attribute of type F64: its 64 bits as a signed varint. */
+tikomuci_answer tikomuci_write_ap_float_f64(uint8_t *out, size_t len, uint64_t at, uint64_t f64_bits);
+
+/* A float attribute of an 8-bit type: one byte, the code nearest to the f64 that has these bits. */
+tikomuci_answer tikomuci_write_ap_float_f8e4m3fn(uint8_t *out, size_t len, uint64_t at, uint64_t f64_bits);
+tikomuci_answer tikomuci_write_ap_float_f8e5m2(uint8_t *out, size_t len, uint64_t at, uint64_t f64_bits);
+
+/* A counted array: the count as a varint, then the numbers, little-endian. */
+tikomuci_answer tikomuci_write_le_var_size_i32(uint8_t *out, size_t len, uint64_t at, const int32_t *values,
+                                               size_t count);
+tikomuci_answer tikomuci_write_le_var_size_i64(uint8_t *out, size_t len, uint64_t at, const int64_t *values,
+                                               size_t count);
+
+/*
+ * Padding bytes (0xCB) up to the next multiple of `alignment`; none if it is below 2. It need not be a power of two.
+ * `required_alignment` is the largest alignment asked for so far, 1 at the start; `second` is what it is afterwards.
+ */
+tikomuci_answer tikomuci_align_to(uint8_t *out, size_t len, uint64_t at, uint64_t required_alignment,
+                                  uint64_t alignment);
+
+/* Overwrites the number at `offset`, little-endian. Outside the buffer: 14. `first` is the place after it. */
+tikomuci_answer tikomuci_patch_u32(uint8_t *buf, size_t len, uint64_t offset, uint32_t value);
+tikomuci_answer tikomuci_patch_u64(uint8_t *buf, size_t len, uint64_t offset, uint64_t value);
+
+/*
+ * Readers: each reads at the place `at` of `len` bytes. `first` is the value, a signed one as its bit pattern in its
+ * width; `second` is the next place. 2 if the data ends first, which a place past the data does.
+ */
+
+/* One byte. */
+tikomuci_answer tikomuci_read_byte(const uint8_t *data, size_t len, uint64_t at);
+
+/* The next `n` bytes: `first` is the offset of the first of them. */
+tikomuci_answer tikomuci_read_bytes(const uint8_t *data, size_t len, uint64_t at, uint64_t n);
+
+/* A varint of at most ten bytes, not only the shortest spelling. A tenth byte with the top bit is refused (3). */
+tikomuci_answer tikomuci_read_varint(const uint8_t *data, size_t len, uint64_t at);
+
+/* A signed varint: `first` has the 64 bits of the value. */
+tikomuci_answer tikomuci_read_signed_varint(const uint8_t *data, size_t len, uint64_t at);
+
+/* Numbers of a fixed width, little-endian. */
+tikomuci_answer tikomuci_read_le_u8(const uint8_t *data, size_t len, uint64_t at);
+tikomuci_answer tikomuci_read_le_u16(const uint8_t *data, size_t len, uint64_t at);
+tikomuci_answer tikomuci_read_le_u32(const uint8_t *data, size_t len, uint64_t at);
+tikomuci_answer tikomuci_read_le_u64(const uint8_t *data, size_t len, uint64_t at);
+tikomuci_answer tikomuci_read_le_i32(const uint8_t *data, size_t len, uint64_t at);
+tikomuci_answer tikomuci_read_le_i64(const uint8_t *data, size_t len, uint64_t at);
+
+/* Padding bytes up to the next multiple of `alignment`: `first` is how many. A byte that is not 0xCB is refused (5). */
+tikomuci_answer tikomuci_skip_padding(const uint8_t *data, size_t len, uint64_t at, uint64_t alignment);
+
+/* A counted array: `first` is the count, and the numbers are the count times 4 or 8 bytes before `second`. */
+tikomuci_answer tikomuci_read_le_var_size_i32(const uint8_t *data, size_t len, uint64_t at);
+tikomuci_answer tikomuci_read_le_var_size_i64(const uint8_t *data, size_t len, uint64_t at);
+
+/* How many bytes stand at `at` and after it; 0 past the end. */
+uint64_t tikomuci_remaining(const uint8_t *data, size_t len, uint64_t at);
+
+/* The 8-bit code nearest to the f64 that has these bits, ties to the even code. */
+uint8_t tikomuci_f8e4m3fn(uint64_t f64_bits);
+uint8_t tikomuci_f8e5m2(uint64_t f64_bits);
+
+#ifdef __cplusplus
+}
+#endif
+
+#endif

@@ -1,0 +1,205 @@
+// tikomuci.hpp: the calls of tikomuci.h over std::span, for C++20.
+//
+// A Writer and a Reader keep the place between calls, as EncodingWriter and Reader do in the Rust that they follow. A
+// refused call leaves the place and the bytes as they were. Answers are [[nodiscard]]: no refusal is lost by silence.
+#ifndef TIKOMUCI_HPP
+#define TIKOMUCI_HPP
+
+#include <bit>
+#include <cstdint>
+#include <functional>
+#include <span>
+#include <stdexcept>
+
+#include "tikomuci.h"
+
+namespace tikomuci {
+
+using Bytes = std::span<const std::uint8_t>;
+using Output = std::span<std::uint8_t>;
+
+/// Whether a call was accepted, and if not, which refusal at which stage.
+struct [[nodiscard]] Outcome {
+    std::uint64_t refusal = 0;
+    std::uint64_t stage = 0;
+
+    explicit operator bool() const { return refusal == 0; }
+    friend bool operator==(const Outcome &, const Outcome &) = default;
+};
+
+/// A value that was read. A refused read has none: look at `outcome` first.
+template <typename Value>
+struct [[nodiscard]] Got {
+    Outcome outcome;
+    Value value{};
+
+    explicit operator bool() const { return static_cast<bool>(outcome); }
+};
+
+inline Outcome outcome_of(const tikomuci_answer &answer) { return {answer.refusal, answer.stage}; }
+
+/// Whether two spans share a byte. The library is proved for lent spans that do not.
+inline bool overlap(Bytes a, Bytes b) {
+    const std::less<const std::uint8_t *> before;
+    return !a.empty() && !b.empty() && before(a.data(), b.data() + b.size()) && before(b.data(), a.data() + a.size());
+}
+
+template <typename Value>
+Bytes bytes_of(std::span<const Value> values) {
+    return {reinterpret_cast<const std::uint8_t *>(values.data()), values.size_bytes()};
+}
+
+/// Writes numbers one after the other into a lent output.
+class Writer {
+  public:
+    explicit Writer(Output out, std::uint64_t at = 0) : out_(out), at_(at) {}
+
+    Outcome byte(std::uint8_t value) { return moved(call(tikomuci_write_byte, value)); }
+    Outcome varint(std::uint64_t value) { return moved(call(tikomuci_write_varint, value)); }
+    Outcome signed_varint(std::int64_t value) { return moved(call(tikomuci_write_signed_varint, value)); }
+    Outcome le_u8(std::uint8_t value) { return moved(call(tikomuci_write_le_u8, value)); }
+    Outcome le_u16(std::uint16_t value) { return moved(call(tikomuci_write_le_u16, value)); }
+    Outcome le_u32(std::uint32_t value) { return moved(call(tikomuci_write_le_u32, value)); }
+    Outcome le_u64(std::uint64_t value) { return moved(call(tikomuci_write_le_u64, value)); }
+    Outcome le_i32(std::int32_t value) { return moved(call(tikomuci_write_le_i32, value)); }
+    Outcome le_i64(std::int64_t value) { return moved(call(tikomuci_write_le_i64, value)); }
+    Outcome le_f32(float value) { return moved(call(tikomuci_write_le_f32, std::bit_cast<std::uint32_t>(value))); }
+    Outcome le_f64(double value) { return moved(call(tikomuci_write_le_f64, bits(value))); }
+    Outcome ap_float_f64(double value) { return moved(call(tikomuci_write_ap_float_f64, bits(value))); }
+    Outcome ap_float_f8e4m3fn(double value) { return moved(call(tikomuci_write_ap_float_f8e4m3fn, bits(value))); }
+    Outcome ap_float_f8e5m2(double value) { return moved(call(tikomuci_write_ap_float_f8e5m2, bits(value))); }
+
+    /// Throws std::invalid_argument if `data` overlaps the output, as the two calls below do.
+    Outcome bytes(Bytes data) {
+        apart(data);
+        return moved(call(tikomuci_write_bytes, data.data(), data.size()));
+    }
+
+    Outcome le_var_size(std::span<const std::int32_t> values) {
+        apart(bytes_of(values));
+        return moved(call(tikomuci_write_le_var_size_i32, values.data(), values.size()));
+    }
+
+    Outcome le_var_size(std::span<const std::int64_t> values) {
+        apart(bytes_of(values));
+        return moved(call(tikomuci_write_le_var_size_i64, values.data(), values.size()));
+    }
+
+    Outcome align_to(std::uint64_t alignment) {
+        const tikomuci_answer answer = call(tikomuci_align_to, required_alignment_, alignment);
+        if (answer.refusal == 0) {
+            required_alignment_ = answer.second;
+        }
+        return moved(answer);
+    }
+
+    [[nodiscard]] std::uint64_t tell() const { return at_; }
+    [[nodiscard]] std::uint64_t required_alignment() const { return required_alignment_; }
+
+  private:
+    static std::uint64_t bits(double value) { return std::bit_cast<std::uint64_t>(value); }
+
+    template <typename Call, typename... Values>
+    tikomuci_answer call(Call function, Values... values) {
+        return function(out_.data(), out_.size(), at_, values...);
+    }
+
+    Outcome moved(const tikomuci_answer &answer) {
+        if (answer.refusal == 0) {
+            at_ = answer.first;
+        }
+        return outcome_of(answer);
+    }
+
+    void apart(Bytes lent) const {
+        if (overlap(lent, out_)) {
+            throw std::invalid_argument("tikomuci: the lent spans overlap");
+        }
+    }
+
+    Output out_;
+    std::uint64_t at_;
+    std::uint64_t required_alignment_ = 1;
+};
+
+/// Reads numbers one after the other from lent bytes.
+class Reader {
+  public:
+    explicit Reader(Bytes data, std::uint64_t at = 0) : data_(data), at_(at) {}
+
+    Got<std::uint8_t> byte() { return got<std::uint8_t>(call(tikomuci_read_byte)); }
+    Got<std::uint64_t> varint() { return got<std::uint64_t>(call(tikomuci_read_varint)); }
+    Got<std::int64_t> signed_varint() { return got<std::int64_t>(call(tikomuci_read_signed_varint)); }
+    Got<std::uint8_t> le_u8() { return got<std::uint8_t>(call(tikomuci_read_le_u8)); }
+    Got<std::uint16_t> le_u16() { return got<std::uint16_t>(call(tikomuci_read_le_u16)); }
+    Got<std::uint32_t> le_u32() { return got<std::uint32_t>(call(tikomuci_read_le_u32)); }
+    Got<std::uint64_t> le_u64() { return got<std::uint64_t>(call(tikomuci_read_le_u64)); }
+    Got<std::int32_t> le_i32() { return got<std::int32_t>(call(tikomuci_read_le_i32)); }
+    Got<std::int64_t> le_i64() { return got<std::int64_t>(call(tikomuci_read_le_i64)); }
+
+    /// The next `n` bytes, as a part of what was lent.
+    Got<Bytes> bytes(std::uint64_t n) {
+        const tikomuci_answer answer = call(tikomuci_read_bytes, n);
+        if (answer.refusal != 0) {
+            return {outcome_of(answer), {}};
+        }
+        at_ = answer.second;
+        return {{}, data_.subspan(answer.first, n)};
+    }
+
+    /// How many padding bytes were passed over.
+    Got<std::uint64_t> skip_padding(std::uint64_t alignment) {
+        return got<std::uint64_t>(call(tikomuci_skip_padding, alignment));
+    }
+
+    /// The numbers of a counted array, as the little-endian bytes that they are; a quarter or an eighth is their count.
+    Got<Bytes> le_var_size_i32() { return counted(call(tikomuci_read_le_var_size_i32), 4); }
+    Got<Bytes> le_var_size_i64() { return counted(call(tikomuci_read_le_var_size_i64), 8); }
+
+    [[nodiscard]] std::uint64_t remaining() const { return tikomuci_remaining(data_.data(), data_.size(), at_); }
+    [[nodiscard]] std::uint64_t tell() const { return at_; }
+
+  private:
+    template <typename Call, typename... Values>
+    tikomuci_answer call(Call function, Values... values) {
+        return function(data_.data(), data_.size(), at_, values...);
+    }
+
+    // The value stands in the answer as its bit pattern in its width, so the narrowing loses nothing.
+    template <typename Value>
+    Got<Value> got(const tikomuci_answer &answer) {
+        if (answer.refusal != 0) {
+            return {outcome_of(answer), {}};
+        }
+        at_ = answer.second;
+        return {{}, static_cast<Value>(answer.first)};
+    }
+
+    Got<Bytes> counted(const tikomuci_answer &answer, std::uint64_t width) {
+        if (answer.refusal != 0) {
+            return {outcome_of(answer), {}};
+        }
+        at_ = answer.second;
+        const std::uint64_t size = answer.first * width;
+        return {{}, data_.subspan(answer.second - size, size)};
+    }
+
+    Bytes data_;
+    std::uint64_t at_;
+};
+
+/// Overwrites a number at `offset`; 14 outside the buffer.
+inline Outcome patch_u32(Output buf, std::uint64_t offset, std::uint32_t value) {
+    return outcome_of(tikomuci_patch_u32(buf.data(), buf.size(), offset, value));
+}
+
+inline Outcome patch_u64(Output buf, std::uint64_t offset, std::uint64_t value) {
+    return outcome_of(tikomuci_patch_u64(buf.data(), buf.size(), offset, value));
+}
+
+inline std::uint8_t f8e4m3fn(double value) { return tikomuci_f8e4m3fn(std::bit_cast<std::uint64_t>(value)); }
+inline std::uint8_t f8e5m2(double value) { return tikomuci_f8e5m2(std::bit_cast<std::uint64_t>(value)); }
+
+}  // namespace tikomuci
+
+#endif

@@ -1,0 +1,21 @@
+# The compilers of the hosts. The library is compiled for x86-64; on another processor the hosts are cross-compiled and
+# run by an emulator (tools/install-missing gets both).
+
+TRIPLE := x86_64-unknown-linux-gnu
+export CARGO_TARGET_DIR := $(CURDIR)/build/cargo
+export CARGO_NET_OFFLINE := true
+
+ifeq ($(shell uname -m),x86_64)
+CC := gcc
+CXX := g++
+RUN :=
+else
+CC := x86_64-linux-gnu-gcc
+CXX := x86_64-linux-gnu-g++
+RUN := qemu-x86_64
+export RUSTC := $(shell tools/rustc-for $(TRIPLE))
+export TIKOMUCI_EMULATED := yes
+export CARGO_BUILD_TARGET := $(TRIPLE)
+export CARGO_TARGET_X86_64_UNKNOWN_LINUX_GNU_LINKER := $(CC)
+export CARGO_TARGET_X86_64_UNKNOWN_LINUX_GNU_RUNNER := $(RUN)
+endif
