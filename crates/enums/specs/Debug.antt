@@ -25,4 +25,5 @@ tagCallSite = 6
 
 -- All debug tags, in their order.
 abbrev pub debugTags : List ℕ
-debugTags = tagUnknown ∷ tagDICompileUnit ∷ tagDIFile ∷ tagDILexicalBlock ∷ tagDILoc ∷ tagDISubprogram ∷ tagCallSite ∷ []
+debugTags =
+    tagUnknown ∷ tagDICompileUnit ∷ tagDIFile ∷ tagDILexicalBlock ∷ tagDILoc ∷ tagDISubprogram ∷ tagCallSite ∷ []

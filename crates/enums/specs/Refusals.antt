@@ -100,8 +100,12 @@ atCall = 10
 
 -- All refusal numbers, in their order.
 abbrev pub refusalNumbers : List ℕ
-refusalNumbers = limit ∷ short ∷ overlong ∷ notMagic ∷ unpadded ∷ bounds ∷ noProducer ∷ typeTag ∷ debugTag ∷ hints ∷ full ∷ unsound ∷ startTooLarge ∷ notThere ∷ []
+refusalNumbers =
+    limit ∷ short ∷ overlong ∷ notMagic ∷ unpadded ∷ bounds ∷ noProducer ∷ typeTag ∷ debugTag ∷ hints ∷ full ∷
+    unsound ∷ startTooLarge ∷ notThere ∷ []
 
 -- All stages, in their order.
 abbrev pub stages : List ℕ
-stages = atLimits ∷ atHeader ∷ atSections ∷ atString ∷ atProducer ∷ atType ∷ atConstant ∷ atGlobal ∷ atFunc ∷ atDebug ∷ atCall ∷ []
+stages =
+    atLimits ∷ atHeader ∷ atSections ∷ atString ∷ atProducer ∷ atType ∷ atConstant ∷ atGlobal ∷ atFunc ∷ atDebug ∷
+    atCall ∷ []

@@ -76,4 +76,7 @@ tagF8E5M3FNU = 0x82
 
 -- All type tags, in their order.
 abbrev pub typeTags : List ℕ
-typeTags = tagI1 ∷ tagI8 ∷ tagI16 ∷ tagI32 ∷ tagI64 ∷ tagF16 ∷ tagBF16 ∷ tagF32 ∷ tagTF32 ∷ tagF64 ∷ tagF8E4M3FN ∷ tagF8E5M2 ∷ tagPointer ∷ tagTile ∷ tagTensorView ∷ tagPartitionView ∷ tagFunc ∷ tagToken ∷ tagF8E8M0FNU ∷ tagF4E2M1FN ∷ tagGatherScatterView ∷ tagStridedView ∷ tagI4 ∷ tagF8E5M3FNU ∷ []
+typeTags =
+    tagI1 ∷ tagI8 ∷ tagI16 ∷ tagI32 ∷ tagI64 ∷ tagF16 ∷ tagBF16 ∷ tagF32 ∷ tagTF32 ∷ tagF64 ∷ tagF8E4M3FN ∷
+    tagF8E5M2 ∷ tagPointer ∷ tagTile ∷ tagTensorView ∷ tagPartitionView ∷ tagFunc ∷ tagToken ∷ tagF8E8M0FNU ∷
+    tagF4E2M1FN ∷ tagGatherScatterView ∷ tagStridedView ∷ tagI4 ∷ tagF8E5M3FNU ∷ []

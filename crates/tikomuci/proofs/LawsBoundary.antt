@@ -1,10 +1,9 @@
 -- A call answers what the crate below answered; and any two results that a call's contract allows are equal.
 -- Assumes nothing.
 use mathlib.Core.Path.{_≡_, refl, sym, ap, _∙_, subst}
-use Prim.Native.Nat.{ℕ, zero, suc}
+use Prim.Native.Nat.{ℕ}
 use mathlib.Core.List.{List}
 use lib.ListN.{length, drop}
-use Rattle.exact.specs.Fixed.{nums}
 use Rattle.encoding.specs.Out.{Wrote}
 use Rattle.encoding.specs.Shown as below
 use Rattle.encoding.specs.Floats as floats
@@ -13,6 +12,7 @@ use Rattle.encoding.specs.declared.EncodingWriter.{EncodingWriter}
 use Rattle.encoding.specs.declared.FloatType.{FloatType}
 use Rattle.encoding.specs.declared.Written.{Written}
 use Rattle.reading.specs.Shown.{gotBytes, gotItems}
+use Rattle.reading.proofs.LawsPlaced.{length-nums}
 use Rattle.reading.specs.declared.BytesRead.{BytesRead}
 use Rattle.reading.specs.declared.BytesRead.the-variants as bytes
 use Rattle.reading.specs.declared.ItemsRead.{ItemsRead}
@@ -38,11 +38,6 @@ puts-float e f p = record { bytes = p .bytes; spelt = p .spelt; written = rw (�
 pub run-of : (s : List ℕ) (r : BytesRead) → runOf r ≡ run (gotBytes s r)
 run-of s (bytes.Got start r) = refl
 run-of s (bytes.Stop x) = refl
-
-length-nums : (n w : ℕ) (s : List ℕ) → length (nums n w s) ≡ n
-unfolding nums
-length-nums zero w s = refl
-length-nums (suc n) w s = ap suc (length-nums n w (drop w s))
 
 -- .. and a counted array by its count.
 pub items-of : (w : ℕ) (s : List ℕ) (r : ItemsRead) → itemsOf r ≡ items (gotItems w s r)
