@@ -50,7 +50,7 @@ cpp-tests: build/tests
 	$(RUN) build/tests
 
 reader-tests:
-	$(CARGO) test $(IN_RUST) --release --package boundary --test readers
+	$(CARGO) test $(IN_RUST) --package boundary --test readers --test views
 
 comparison:
 ifneq ($(HAS_RUST),)

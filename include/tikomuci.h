@@ -23,7 +23,7 @@ typedef struct {
     uint64_t second;  /* of an acceptance, see each call; else 0 */
 } tikomuci_answer;
 
-/* The refusal numbers. The calls of this header give 2, 3, 5, 11 and 14. */
+/* The refusal numbers. The calls of this header give 1 to 5, 11 and 14. */
 enum {
     TIKOMUCI_REFUSAL_LIMIT = 1,     /* file, image, pool or sheet over its limit */
     TIKOMUCI_REFUSAL_SHORT = 2,     /* the data ends inside an item */
@@ -41,8 +41,31 @@ enum {
     TIKOMUCI_REFUSAL_ABSENT = 14    /* asked index or section not there; patch outside */
 };
 
-/* The stage of a refusal by a call that reads no container, as every call of this header. */
-enum { TIKOMUCI_STAGE_CALL = 10 };
+/* The stages: the limits, the parts of a file in the order in which they are read, and calls that read no file. */
+enum {
+    TIKOMUCI_STAGE_LIMITS = 0,
+    TIKOMUCI_STAGE_HEADER = 1,
+    TIKOMUCI_STAGE_SECTIONS = 2,
+    TIKOMUCI_STAGE_STRING = 3,
+    TIKOMUCI_STAGE_PRODUCER = 4,
+    TIKOMUCI_STAGE_TYPE = 5,
+    TIKOMUCI_STAGE_CONSTANT = 6,
+    TIKOMUCI_STAGE_GLOBAL = 7,
+    TIKOMUCI_STAGE_FUNC = 8,
+    TIKOMUCI_STAGE_DEBUG = 9,
+    TIKOMUCI_STAGE_CALL = 10 /* asked indices, and every call that is not reading a container */
+};
+
+/* The section ids. */
+enum {
+    TIKOMUCI_SECTION_STRING = 1,
+    TIKOMUCI_SECTION_FUNC = 2,
+    TIKOMUCI_SECTION_DEBUG = 3,
+    TIKOMUCI_SECTION_CONSTANT = 4,
+    TIKOMUCI_SECTION_TYPE = 5,
+    TIKOMUCI_SECTION_GLOBAL = 6,
+    TIKOMUCI_SECTION_PRODUCER = 7
+};
 
 /*
  * Writers: each writes at the place `at` of an output of `len` bytes. `first` is the next place. A result that does not
@@ -135,6 +158,17 @@ uint64_t tikomuci_remaining(const uint8_t *data, size_t len, uint64_t at);
 /* The 8-bit code nearest to the f64 that has these bits, ties to the even code. */
 uint8_t tikomuci_f8e4m3fn(uint64_t f64_bits);
 uint8_t tikomuci_f8e5m2(uint64_t f64_bits);
+
+/*
+ * Views of a file of Tile IR bytecode.
+ */
+
+/*
+ * The whole payload that counts for a section id, which is the last one with that id: `first` is its offset in the
+ * file, `second` its length. Only the header and the walk over the sections are judged: 1 at stage 0, 2 and 4 at stage
+ * 1, 2, 3 and 5 at stage 2. An id that is not there is 14 at stage 10.
+ */
+tikomuci_answer tikomuci_section(const uint8_t *file, size_t file_len, uint64_t id);
 
 #ifdef __cplusplus
 }

@@ -197,6 +197,15 @@ inline Outcome patch_u64(Output buf, std::uint64_t offset, std::uint64_t value) 
     return outcome_of(tikomuci_patch_u64(buf.data(), buf.size(), offset, value));
 }
 
+/// The whole payload that counts for a section id, as a part of the file.
+inline Got<Bytes> section(Bytes file, std::uint64_t id) {
+    const tikomuci_answer answer = tikomuci_section(file.data(), file.size(), id);
+    if (answer.refusal != 0) {
+        return {outcome_of(answer), {}};
+    }
+    return {{}, file.subspan(answer.first, answer.second)};
+}
+
 inline std::uint8_t f8e4m3fn(double value) { return tikomuci_f8e4m3fn(std::bit_cast<std::uint64_t>(value)); }
 inline std::uint8_t f8e5m2(double value) { return tikomuci_f8e5m2(std::bit_cast<std::uint64_t>(value)); }
 

@@ -99,6 +99,20 @@ void read_counted_array() {
     std::printf("  one byte shorter: %s\n", said(cut.outcome).c_str());
 }
 
+// Document 01's whole case: a file with one String section, which holds "a" and "bc".
+void view_a_section() {
+    heading("A section of a file, and the same file with a length that reaches too far");
+    std::vector<std::uint8_t> file = {0x7F, 'T',  'i',  'l',  'e', 'I', 'R', 0x00, 13, 1, 0, 0, 0x81, 0x0F, 4,   0xCB,
+                                      2,    0xCB, 0xCB, 0xCB, 0,   0,   0,   0,    1,  0, 0, 0, 'a',  'b',  'c', 0};
+    const auto strings = tikomuci::section(file, TIKOMUCI_SECTION_STRING);
+    must(strings.outcome);
+    std::printf("  String   %s\n", hex(strings.value).c_str());
+    const auto constants = tikomuci::section(file, TIKOMUCI_SECTION_CONSTANT);
+    std::printf("  Constant %s\n", said(constants.outcome).c_str());
+    file[13] = 0x7F;
+    std::printf("  damaged  %s\n", said(tikomuci::section(file, TIKOMUCI_SECTION_STRING).outcome).c_str());
+}
+
 // Two instances' profiles lie side by side in one cache. The first one's count is damaged and claims a number too many.
 void keep_to_the_lent_bytes() {
     heading("A damaged count does not reach the neighbour's bytes");
@@ -173,5 +187,6 @@ int main() {
     pad();
     patch();
     convert_floats();
+    view_a_section();
     return EXIT_SUCCESS;
 }

@@ -41,6 +41,7 @@ static const any_call calls[] = {
     (any_call)tikomuci_remaining,
     (any_call)tikomuci_f8e4m3fn,
     (any_call)tikomuci_f8e5m2,
+    (any_call)tikomuci_section,
 };
 
 int header_calls(void);

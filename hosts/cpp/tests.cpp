@@ -215,6 +215,40 @@ void patches() {
     expect(answer.first == 9 && answer.second == 0, "the place after a patch");
 }
 
+// Document 01's whole case: one String section of 15 bytes from place 16 on.
+Wire whole_case() {
+    return {0x7F, 'T',  'i',  'l',  'e', 'I', 'R', 0x00, 13, 1, 0, 0, 0x81, 0x0F, 4,   0xCB,
+            2,    0xCB, 0xCB, 0xCB, 0,   0,   0,   0,    1,  0, 0, 0, 'a',  'b',  'c', 0};
+}
+
+// The refusal of the String section's view after the byte at `place` became `byte`.
+Outcome damaged(std::size_t place, std::uint8_t byte) {
+    Wire file = whole_case();
+    file[place] = byte;
+    return tikomuci::section(file, TIKOMUCI_SECTION_STRING).outcome;
+}
+
+void section_views() {
+    const Wire file = whole_case();
+    const auto strings = tikomuci::section(file, TIKOMUCI_SECTION_STRING);
+    expect(strings && strings.value.data() == file.data() + 16 && strings.value.size() == 15, "the String section");
+    for (const std::uint64_t id : {0, 2, 3, 4, 5, 6, 7, 8, 127}) {
+        expect(tikomuci::section(file, id).outcome == ABSENT, "section " + std::to_string(id) + " is not there");
+    }
+    expect(tikomuci::section(file, std::numeric_limits<std::uint64_t>::max()).outcome == ABSENT, "a far section id");
+    for (std::size_t size = 0; size < file.size(); ++size) {
+        const std::uint64_t stage = size < 12 ? TIKOMUCI_STAGE_HEADER : TIKOMUCI_STAGE_SECTIONS;
+        expect(tikomuci::section(Bytes(file).first(size), TIKOMUCI_SECTION_STRING).outcome ==
+                   Outcome{TIKOMUCI_REFUSAL_SHORT, stage},
+               "a file cut to " + std::to_string(size) + " bytes");
+    }
+    expect(damaged(7, 1) == Outcome{TIKOMUCI_REFUSAL_MAGIC, TIKOMUCI_STAGE_HEADER}, "a wrong magic");
+    expect(damaged(13, 0x11) == Outcome{TIKOMUCI_REFUSAL_SHORT, TIKOMUCI_STAGE_SECTIONS}, "a length past the file");
+    expect(damaged(15, 0xCA) == Outcome{TIKOMUCI_REFUSAL_PADDING, TIKOMUCI_STAGE_SECTIONS}, "a wrong padding byte");
+    expect(damaged(12, 0x88) == ABSENT, "an id of no table is passed over");
+    expect(damaged(12, 0x80) == ABSENT, "the end marker's top bit does not matter");
+}
+
 // An empty span may come as a null pointer.
 void null_pointers() {
     expect(outcome_of(tikomuci_write_varint(nullptr, 0, 0, 0)) == FULL, "writing to nothing");
@@ -239,13 +273,14 @@ void overlapping_spans() {
 }  // namespace
 
 int main() {
-    expect(header_calls() == 36, "every call of the header is in the archive");
+    expect(header_calls() == 37, "every call of the header is in the archive");
     marked_table();
     fixed_widths();
     varints();
     runs_and_arrays();
     padding();
     patches();
+    section_views();
     null_pointers();
     overlapping_spans();
     std::printf("C++ host: %d checks passed, %d failed\n", passed, failed);

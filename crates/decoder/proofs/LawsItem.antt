@@ -5,9 +5,9 @@ use native.Mathlib.Omega.{arith}
 use native.Mathlib.Decide.{ℕ-discrete, decLt}
 use mathlib.Core.Option.{Option, none, some}
 use mathlib.Core.List.{List}
-use lib.ListN.{length, length-drop}
-use Rattle.exact.specs.Got.{Got, got, stop, follow, ended}
-use Rattle.exact.specs.Exact.{Parser, Exact}
+use lib.ListN.{length}
+use Rattle.exact.specs.Got.{Got, got, stop, follow}
+use Rattle.exact.specs.Exact.{Parser}
 use Rattle.exact.specs.Basic.{byte, pure}
 use Rattle.exact.specs.Sequence.{bind, map}
 use Rattle.exact.specs.Choice.{choose}
@@ -35,11 +35,15 @@ sectionOf h k p = record { id = h .id; start = k; payload = p }
 -- What stands behind a header: a payload, or nothing behind the end marker.
 unfoldable behind : SectionHeader → Parser (Option Section)
 behind h =
-    choose (ℕ-discrete (h .id) endOfBytecode) (pure none) (bind place (λ k. map (λ p. some (sectionOf h k p)) (raw (h .«data_len»))))
+    choose (ℕ-discrete (h .id) endOfBytecode) (pure none)
+    (bind place (λ k. map (λ p. some (sectionOf h k p)) (raw (h .«data_len»))))
 
 module _ (l : List ℕ) (first : ℕ) where
   abbrev header : ℕ → SectionHeader
   header n = record { id = first % 128; «data_len» = n }
+
+  abbrev payloadAt : ℕ → Parser Section
+  payloadAt n = bind place (λ k. map (λ p. sectionOf (header n) k p) (raw n))
 
   payload-of : (n m : ℕ) (g : Got (List ℕ)) →
       follow (follow g (λ p j. got (sectionOf (header n) m p) j)) (λ s j. got (some s) j) ≡
@@ -54,14 +58,14 @@ module _ (l : List ℕ) (first : ℕ) where
   not-end h n m = ap (λ p. p l m) (choose-no (ℕ-discrete (first % 128) endOfBytecode) (pure none) _ h)
 
   after-alignment : ¬ (first % 128 ≡ endOfBytecode) → (n : ℕ) (g : Got (Unit {0})) →
-      follow (follow g (λ u j. bind place (λ k. map (λ p. sectionOf (header n) k p) (raw n)) l j)) (λ s j. got (some s) j) ≡
+      follow (follow g (λ u j. payloadAt n l j)) (λ s j. got (some s) j) ≡
       follow (follow g (λ u j. got (header n) j)) (λ h j. behind h l j)
   unfolding follow bind place map pure
   after-alignment h n (got u m) = payload-of n m (raw n l m) ∙ sym (not-end h n m)
   after-alignment h n (stop c k) = refl
 
   after-length : ¬ (first % 128 ≡ endOfBytecode) → (g : Got ℕ) →
-      follow (follow g (λ n j. bind (alignmentAt first) (λ u. bind place (λ k. map (λ p. sectionOf (header n) k p) (raw n))) l j)) (λ s j. got (some s) j) ≡
+      follow (follow g (λ n j. bind (alignmentAt first) (λ u. payloadAt n) l j)) (λ s j. got (some s) j) ≡
       follow (follow g (λ n j. bind (alignmentAt first) (λ u. pure (header n)) l j)) (λ h j. behind h l j)
   unfolding follow bind pure
   after-length h (got n m) = after-alignment h n (alignmentAt first l m)
@@ -73,7 +77,8 @@ module _ (l : List ℕ) (first : ℕ) where
 
   after-first : (d : Dec (first % 128 ≡ endOfBytecode)) (j : ℕ) →
       choose d (pure none) (map some (sectionAt first)) l j ≡
-      follow (choose d (pure (header 0)) (bind varintAt (λ n. bind (alignmentAt first) (λ u. pure (header n)))) l j) (λ h j. behind h l j)
+      follow (choose d (pure (header 0)) (bind varintAt (λ n. bind (alignmentAt first) (λ u. pure (header n)))) l j)
+      (λ h j. behind h l j)
   unfolding choose follow pure sectionAt map bind
   after-first (yes e) j = sym (end-behind e j)
   after-first (no n) j = after-length n (varintAt l j)
@@ -119,16 +124,16 @@ module _ (l : List ℕ) (i : ℕ) where
     pub header-end : id ≡ endOfBytecode → got (record { id = id; «data_len» = 0 }) j ≡ sectionHeaderAt l i
     unfolding sectionHeaderAt bind follow pure
     header-end e =
-        rw (b, low)
-        (sym (ap (λ p. p l j) (choose-yes (ℕ-discrete (first % 128) endOfBytecode) (pure (header l first 0)) _ (sym low ∙ e))))
+        let d = ℕ-discrete (first % 128) endOfBytecode in
+        rw (b, low) (sym (ap (λ p. p l j) (choose-yes d (pure (header l first 0)) _ (sym low ∙ e))))
 
     module _ (not : ¬ (id ≡ endOfBytecode)) where
       header-more : sectionHeaderAt l i ≡
           bind varintAt (λ n. bind (alignmentAt first) (λ u. pure (record { id = id; «data_len» = n }))) l j
       unfolding sectionHeaderAt bind follow
       header-more =
-          rw (b, low)
-          (ap (λ p. p l j) (choose-no (ℕ-discrete (first % 128) endOfBytecode) (pure (header l first 0)) _ (λ e. not (low ∙ e))))
+          let d = ℕ-discrete (first % 128) endOfBytecode in
+          rw (b, low) (ap (λ p. p l j) (choose-no d (pure (header l first 0)) _ (λ e. not (low ∙ e))))
 
       -- The length is refused.
       pub header-no-length : (c k : ℕ) → varintAt l j ≡ stop c k → stop c k ≡ sectionHeaderAt l i
@@ -141,7 +146,8 @@ module _ (l : List ℕ) (i : ℕ) where
             sym (header-more ∙ bind-got varintAt _ l j n m (sym v) ∙ bind-stop (alignmentAt first) _ l m c k (sym e))
 
         -- .. or all was read.
-        pub header-got : (q : ℕ) → alignmentAt first l m ≡ got tt q → got (record { id = id; «data_len» = n }) q ≡ sectionHeaderAt l i
+        pub header-got : (q : ℕ) → alignmentAt first l m ≡ got tt q →
+            got (record { id = id; «data_len» = n }) q ≡ sectionHeaderAt l i
         unfolding pure
         header-got q e =
             sym (header-more ∙ bind-got varintAt _ l j n m (sym v) ∙ bind-got (alignmentAt first) _ l m tt q (sym e))
@@ -154,7 +160,8 @@ byte-in l i b j e =
     ]
 
 -- A header that was read takes a byte at least.
-pub header-in : (l : List ℕ) (i : ℕ) (h : SectionHeader) (j : ℕ) → sectionHeaderAt l i ≡ got h j → (i < length l) × (i < j)
+pub header-in : (l : List ℕ) (i : ℕ) (h : SectionHeader) (j : ℕ) → sectionHeaderAt l i ≡ got h j →
+    (i < length l) × (i < j)
 unfolding sectionHeaderAt bind alignmentAt
 header-in l i h j e =
     let (first, m, b, f) = follow-inv (byte l i) _ h j e in

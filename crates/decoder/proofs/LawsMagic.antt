@@ -1,11 +1,11 @@
 -- How a loop compares eight bytes with MAGIC. Assumes nothing.
-use mathlib.Core.Path.{_≡_, refl, sym, ap, _∙_}
+use mathlib.Core.Path.{_≡_, sym, _∙_}
 use Prim.Native.Nat.{ℕ, suc, _+_, _-_, _≤_, _<_}
 use native.Mathlib.Omega.{arith}
 use native.Mathlib.Numerals.{add-one}
 use native.Mathlib.Decide.{decLt}
 use mathlib.Core.Bool.{Bool, true, false, _&&_, Bool-discrete}
-use mathlib.Core.List.{List, _∷_}
+use mathlib.Core.List.{List}
 use lib.ListN.{length, take, drop, getD}
 use lib.Seq.{drop-cons}
 use lib.Dec.{eqb}
@@ -46,7 +46,8 @@ module _ (l : List ℕ) (start k : ℕ) (fits : start + 8 ≤ length l) (h : k <
   pub alike-more : Alike l start k → getD l (start + k) 0 ≡ getD magic k 0 → Alike l start (k + 1)
   alike-more x e = x ∙ next ∙ rw (eq-eqb (getD l (start + k) 0) (getD magic k 0) e)
 
-  pub alike-not : Alike l start k → ¬ (getD l (start + k) 0 ≡ getD magic k 0) → false ≡ same (take 8 (drop start l)) magic
+  pub alike-not : Alike l start k → ¬ (getD l (start + k) 0 ≡ getD magic k 0) →
+      false ≡ same (take 8 (drop start l)) magic
   alike-not x n = sym (x ∙ next ∙ rw (ne-eqb (getD l (start + k) 0) (getD magic k 0) n))
 
 pub alike-all : (l : List ℕ) (start k : ℕ) → k ≡ 8 → Alike l start k → true ≡ same (take 8 (drop start l)) magic
@@ -68,7 +69,10 @@ module _ (l : List ℕ) (i : ℕ) where
     magic-in = let (a, j, h) = run-got 8 l i start bs next e in omega arith
 
     -- .. and are MAGIC, or not.
-    magic-run : magicAt l i ≡ broke (choose (Bool-discrete (same (take 8 (drop start l)) magic) true) (pure (take 8 (drop start l))) (fail refusals.notMagic) l next) start
+    magic-run : magicAt l i ≡
+        broke
+        (choose (Bool-discrete (same (take 8 (drop start l)) magic) true)
+        (pure (take 8 (drop start l))) (fail refusals.notMagic) l next) start
     unfolding magicAt blamed such bind follow
     magic-run = let (a, j, h) = run-got 8 l i start bs next e in rw (raw-at 8 l i h, a, j)
 

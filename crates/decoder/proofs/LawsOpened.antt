@@ -1,41 +1,35 @@
 -- What header and walk give: how the code follows it, and what the model of the whole file and the layout make of it.
 -- Assumes nothing.
-use mathlib.Core.Path.{_≡_, refl, sym, ap, _∙_}
+use mathlib.Core.Path.{_≡_, refl, ap, _∙_}
 use Prim.Native.Nat.{ℕ, _+_, _≤_, _<_}
 use native.Mathlib.Nat.{zero-add}
 use native.Mathlib.Omega.{arith}
-use native.Mathlib.Decide.{decLe, decLt}
-use mathlib.Core.Bool.{Bool, true, false, true≢false}
-use mathlib.Core.Option.{Option, none, some}
+use native.Mathlib.Decide.{decLe}
 use mathlib.Core.List.{List, _++_}
-use lib.ListN.{length, drop, getD}
+use lib.ListN.{length}
 use denote.Enum.Declared.{tagOf}
 use Rattle.exact.specs.Got.{Got, got, stop}
 use Rattle.exact.specs.Choice.{choose}
 use Rattle.exact.proofs.LawsExact.{drop-past}
 use Rattle.exact.proofs.LawsChoice.{choose-yes, choose-no}
-use Rattle.enums.specs.Container.{numSections}
 use Rattle.enums.specs.Refusals as refusals
 use Rattle.reading.specs.declared.Refused.{Refused}
 use Rattle.format.specs.Tables.{Version}
 use Rattle.format.specs.Sections.{Section, Sections}
-use Rattle.format.specs.Explains.{Placed, Container}
+use Rattle.format.specs.Explains.{Container}
 use Rattle.format.specs.Read.{Read, accepted, refused, atStage}
-use Rattle.format.specs.DecodeContainer.{headerAt, sectionsAt, lastWith, placeOf}
+use Rattle.format.specs.DecodeContainer.{headerAt, sectionsAt}
 use Rattle.format.specs.Decode.{mostBytes, payloads, readPlaced, placed}
-use Rattle.format.specs.Views.{Span, andThen, payloadSpan, readSections, sectionView}
+use Rattle.format.specs.Views.{andThen, readSections}
 use Rattle.format.proofs.LawsContainer.{header-exact, sections-exact}
-use Rattle.format.proofs.Decoded.{stage-got}
-use Rattle.decoder.specs.declared.sections.SectionPlace.{SectionPlace}
 use Rattle.decoder.specs.declared.sections.Stopped.{Stopped}
 use Rattle.decoder.specs.declared.sections.RawSections.{RawSections}
 use Rattle.decoder.specs.declared.sections.Container.{Container as Held}
 use Rattle.decoder.specs.declared.sections.Walked.the-variants as walk
 use Rattle.decoder.specs.declared.sections.Judged.the-variants as judged
-use Rattle.decoder.specs.Container.{heldPlace, nowhere, heldPlaces, rawSections, Opened, opened, heldVersion, heldContainer}
+use Rattle.decoder.specs.Container.{heldPlaces, rawSections, Opened, opened, heldVersion, heldContainer}
 use Rattle.decoder.proofs.sections.Walked.{the-type as walked-type}
 use Rattle.decoder.proofs.sections.Judged.{the-type as judged-type}
-use Rattle.decoder.proofs.LawsPlaces.{held-length, held-at, place-past}
 
 -- What the walk's answer says of the model: a refusal ..
 pub raw-stop : (r : RawSections) (g : Got (List Section)) (x : Refused) → r ≡ rawSections g → r .walked ≡ walk.Stop x →
@@ -68,7 +62,8 @@ module _ (file : List ℕ) where
       opened-sections c k f = choose-yes (decLe (length file) mostBytes) _ _ h ∙ rw (e, f)
 
       -- .. or it is opened.
-      pub opened-got : (ss : List Section) (k : ℕ) → sectionsAt file j ≡ got ss k → opened file ≡ accepted (record { version = v; sections = ss })
+      pub opened-got : (ss : List Section) (k : ℕ) → sectionsAt file j ≡ got ss k →
+          opened file ≡ accepted (record { version = v; sections = ss })
       unfolding opened atStage
       opened-got ss k f = choose-yes (decLe (length file) mostBytes) _ _ h ∙ rw (e, f)
 
@@ -88,7 +83,7 @@ held-passed r (refused c n i) e w = absurd (omega (arith, ap (λ q. tagOf judged
 abbrev staged : {A : Type 0} → (Version → List Section → Read A) → List ℕ → Got Version → Read A
 staged k file g = atStage refusals.atHeader g (λ v j. atStage refusals.atSections (sectionsAt file j) (λ ss _. k v ss))
 
-abbrev pub both : Version → List Section → Read Opened
+abbrev both : Version → List Section → Read Opened
 both v ss = accepted (record { version = v; sections = ss })
 
 module _ {A : Type 0} (k : Version → List Section → Read A) where
@@ -120,72 +115,17 @@ unfolding placed readPlaced opened
 placed-opened file = then-opened payloads file (decLe (length file) mostBytes)
 
 -- A section view takes the sections alone.
-sections-opened : (file : List ℕ) → readSections file ≡ andThen (opened file) (λ x. accepted (x .sections))
+pub sections-opened : (file : List ℕ) → readSections file ≡ andThen (opened file) (λ x. accepted (x .sections))
 unfolding readSections opened
 sections-opened file = then-opened (λ v ss. accepted ss) file (decLe (length file) mostBytes)
 
 -- A file that is a container within the limit is opened.
-pub container-opened : (file : List ℕ) (v : Version) (ss : List Section) → Container file v ss → length file ≤ mostBytes →
-    opened file ≡ both v ss
+pub container-opened : (file : List ℕ) (v : Version) (ss : List Section) → Container file v ss →
+    length file ≤ mostBytes →
+    opened file ≡ accepted (record { version = v; sections = ss })
 container-opened file v ss c n =
     let h = header-exact .complete file 0 (c .header) (c .walked ++ c .after) v (c .headed) (c .whole) in
-    let d : drop (0 + length (c .header)) file ≡ c .walked ++ c .after = drop-past file 0 (c .header) (c .walked ++ c .after) (c .whole) in
-    let t : Sections (0 + length (c .header)) (c .walked) ss = rw zero-add (c .laid) in
-    opened-got file n v (0 + length (c .header)) h ss _
-    (sections-exact .complete file (0 + length (c .header)) (c .walked) (c .after) ss t d)
-
--- A view of a place is that of its section ..
-held-there : (o : Option Section) → heldPlace (placeOf o) .presence ≡ true →
-    accepted (record { offset = heldPlace (placeOf o) .start; size = heldPlace (placeOf o) .len }) ≡ payloadSpan o
-unfolding placeOf payloadSpan
-held-there none e = absurd (let z : _≡_ {A = Bool} false true = e in true≢false (sym z))
-held-there (some s) e = refl
-
--- .. if it has one.
-held-absent : (o : Option Section) → heldPlace (placeOf o) .presence ≡ false →
-    refused refusals.notThere refusals.atCall 0 ≡ payloadSpan o
-unfolding placeOf payloadSpan
-held-absent none e = refl
-held-absent (some s) e = absurd (true≢false e)
-
-module _ (file : List ℕ) (id : ℕ) where
-  -- A file that is refused has no section to view.
-  pub view-refused : (c n i : ℕ) → opened file ≡ refused c n i → refused c n i ≡ sectionView file id
-  unfolding sectionView andThen
-  view-refused c n i e = sym (rw (sections-opened file, e))
-
-  module _ (x : Opened) (e : opened file ≡ accepted x) where
-    -- What is asked of its sections.
-    pub view-asked : sectionView file id ≡
-        choose (decLt id numSections) (payloadSpan (lastWith id (x .sections))) (refused refusals.notThere refusals.atCall 0)
-    unfolding sectionView andThen
-    view-asked = rw (sections-opened file, e)
-
-    module _ (p : SectionPlace) (q : p ≡ getD (heldPlaces (x .sections)) id nowhere) where
-      place-in : id < numSections → p ≡ heldPlace (placeOf (lastWith id (x .sections)))
-      place-in h = q ∙ held-at (x .sections) id h
-
-      place-out : ¬ (id < numSections) → p ≡ nowhere
-      place-out h = q ∙ sym (place-past (heldPlaces (x .sections)) id (held-length (x .sections)) (omega arith))
-
-      -- A payload that is present is viewed ..
-      pub view-there : p .presence ≡ true → accepted (record { offset = p .start; size = p .len }) ≡ sectionView file id
-      view-there t =
-          elim (decLt id numSections) [
-            | yes h ↦
-                let r : p ≡ heldPlace (placeOf (lastWith id (x .sections))) = place-in h in
-                rw (r, view-asked, choose-yes (decLt id numSections) (payloadSpan (lastWith id (x .sections))) (refused refusals.notThere refusals.atCall 0) h)
-                (held-there (lastWith id (x .sections)) (rw r at t))
-            | no h ↦ absurd (true≢false (sym t ∙ ap (λ z. z .presence) (place-out h)))
-          ]
-
-      -- .. and another one is not there.
-      pub view-absent : p .presence ≡ false → refused refusals.notThere refusals.atCall 0 ≡ sectionView file id
-      view-absent t =
-          elim (decLt id numSections) [
-            | yes h ↦
-                let r : p ≡ heldPlace (placeOf (lastWith id (x .sections))) = place-in h in
-                rw (view-asked, choose-yes (decLt id numSections) (payloadSpan (lastWith id (x .sections))) (refused refusals.notThere refusals.atCall 0) h)
-                (held-absent (lastWith id (x .sections)) (rw r at t))
-            | no h ↦ sym (view-asked ∙ choose-no (decLt id numSections) (payloadSpan (lastWith id (x .sections))) (refused refusals.notThere refusals.atCall 0) h)
-          ]
+    let j : ℕ = 0 + length (c .header) in
+    let d = drop-past file 0 (c .header) (c .walked ++ c .after) (c .whole) in
+    let t : Sections j (c .walked) ss = rw zero-add (c .laid) in
+    opened-got file n v j h ss _ (sections-exact .complete file j (c .walked) (c .after) ss t d)

@@ -1,16 +1,15 @@
 -- The places of one section more: its id's place is overwritten, and ids that have no place pass. Assumes nothing.
-use mathlib.Core.Path.{_≡_, refl, sym, ap, _∙_}
+use mathlib.Core.Path.{_≡_, refl, sym, _∙_}
 use Prim.Native.Nat.{ℕ, zero, suc, _<_, _≤_}
 use native.Mathlib.Omega.{arith}
-use native.Mathlib.Decide.{ℕ-discrete, decLt}
-use mathlib.Core.Bool.{true, false}
-use mathlib.Core.Option.{Option, none, some}
+use native.Mathlib.Decide.{ℕ-discrete}
+use mathlib.Core.Bool.{true}
+use mathlib.Core.Option.{some}
 use mathlib.Core.List.{List, [], _∷_, _++_}
 use lib.ListN.{length, getD, set, length-set, List·getD-eq-default}
-use lib.Seq.{ext-getD, getD-set-same, getD-set-other, set-out}
-use Rattle.exact.specs.Choice.{choose}
+use lib.Seq.{ext-getD, getD-set-same, getD-set-other}
 use Rattle.exact.proofs.LawsChoice.{choose-yes, choose-no}
-use Rattle.format.specs.Sections.{Section, Place}
+use Rattle.format.specs.Sections.{Section}
 use Rattle.format.specs.DecodeContainer.{lastWith, placeOf, placesOf}
 use Rattle.format.proofs.LawsWalk.{last-added}
 use Rattle.decoder.specs.declared.sections.SectionPlace.{SectionPlace}
@@ -21,7 +20,8 @@ pub last-same : (id : ℕ) (ss : List Section) (s : Section) → s .id ≡ id �
 last-same id ss s e = last-added id ss s ∙ choose-yes (ℕ-discrete (s .id) id) (some s) (lastWith id ss) e
 
 -- .. and else the one before.
-pub last-other : (id : ℕ) (ss : List Section) (s : Section) → ¬ (s .id ≡ id) → lastWith id (ss ++ (s ∷ [])) ≡ lastWith id ss
+pub last-other : (id : ℕ) (ss : List Section) (s : Section) → ¬ (s .id ≡ id) →
+    lastWith id (ss ++ (s ∷ [])) ≡ lastWith id ss
 last-other id ss s n = last-added id ss s ∙ choose-no (ℕ-discrete (s .id) id) (some s) (lastWith id ss) n
 
 -- Ids past the last have no place.
@@ -55,11 +55,14 @@ unfolding placeOf
 held-set ss s i h =
     elim (ℕ-discrete (s .id) i) [
       | yes e ↦ rw (last-same i ss s e, e) (getD-set-same (heldPlaces ss) i (placeIn s) nowhere (rw held-length h))
-      | no n ↦ rw (last-other i ss s n, getD-set-other (heldPlaces ss) (s .id) i (placeIn s) nowhere (λ e. n (sym e))) (held-at ss i h)
+      | no n ↦
+          let kept = getD-set-other (heldPlaces ss) (s .id) i (placeIn s) nowhere (λ e. n (sym e)) in
+          rw (last-other i ss s n, kept) (held-at ss i h)
     ]
 
 -- One section more.
-pub held-more : (ss : List Section) (s : Section) → set (heldPlaces ss) (s .id) (placeIn s) ≡ heldPlaces (ss ++ (s ∷ []))
+pub held-more : (ss : List Section) (s : Section) →
+    set (heldPlaces ss) (s .id) (placeIn s) ≡ heldPlaces (ss ++ (s ∷ []))
 held-more ss s =
     ext-getD nowhere (set (heldPlaces ss) (s .id) (placeIn s)) (heldPlaces (ss ++ (s ∷ [])))
     (length-set (heldPlaces ss) (s .id) (placeIn s) ∙ held-length ss ∙ sym (held-length (ss ++ (s ∷ []))))

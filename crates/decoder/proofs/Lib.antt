@@ -5,3 +5,8 @@ pub mod LawsWalk
 pub mod LawsShown
 pub mod LawsOpened
 pub mod LawsViews
+pub mod LawsFill
+pub mod LawsTables
+pub mod LawsProducer
+pub mod LawsFilling
+pub mod LawsRows

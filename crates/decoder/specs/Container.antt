@@ -86,9 +86,11 @@ heldVersion v = record { major = v .major; minor = v .minor; tag = v .tag }
 
 -- What header and walk answer: the version and the places; or a refusal, version 0.0 and no places.
 abbrev pub heldContainer : Read Opened → Container
-heldContainer (accepted x) = record { version = heldVersion (x .version); places = heldPlaces (x .sections); judged = judged.Passed }
-heldContainer (refused c n i) = record {
-  version = record { major = 0; minor = 0; tag = 0 };
-  places = heldPlaces [];
-  judged = judged.Stop (record { no = c; stage = n; at = i });
-}
+heldContainer (accepted x) =
+    record { version = heldVersion (x .version); places = heldPlaces (x .sections); judged = judged.Passed }
+heldContainer (refused c n i) =
+    record {
+      version = record { major = 0; minor = 0; tag = 0 };
+      places = heldPlaces [];
+      judged = judged.Stop (record { no = c; stage = n; at = i });
+    }

@@ -1,2 +1,5 @@
 pub mod Container
 pub mod Views
+pub mod Fill
+pub mod Tables
+pub mod Rows

@@ -5,7 +5,7 @@ use mathlib.Core.List.{List}
 use lib.ListN.{length}
 use Rattle.enums.specs.Container.{numSections}
 use Rattle.format.specs.Tables.{Version}
-use Rattle.format.specs.Sections.{Section, Last}
+use Rattle.format.specs.Sections.{Section}
 use Rattle.format.specs.Explains.{Container}
 use Rattle.format.specs.Read.{Read, accepted, refused}
 use Rattle.format.specs.Decode.{mostBytes}
@@ -18,8 +18,8 @@ abbrev pub viewOf : ViewRead → Read Span
 viewOf (view.Got v) = accepted (record { offset = v .start; size = v .len })
 viewOf (view.Stop x) = refused (x .no) (x .stage) (x .at)
 
--- The bytes of this span are the whole payload that counts for this id: the file is a header, sections and an end marker,
--- and the last of these sections with this id has them as its payload.
+-- The bytes of this span are the whole payload that counts for this id: the file is a header, sections and an end
+-- marker, and the last of these sections with this id has them as its payload.
 pub record SectionAt (file : List ℕ) (id : ℕ) (s : Span) : Type 0 where
   pub version : Version
   pub sections : List Section

@@ -1,5 +1,8 @@
 // decoder.rs: reads a file of Tile IR bytecode.
+pub mod answers;
+mod rows;
 pub mod sections;
+mod tables;
 
 ghost use Rattle.decoder.specs.Views.{SectionPost};
 use enums::Refusal;

@@ -1,4 +1,4 @@
-// Header, section walk and the view of a section. Places count from the file's start.
+// decoder.rs's header, section walk and raw sections. Places count from the file's start.
 ghost use mathlib.Core.Path.{_≡_};
 ghost use Prim.Native.Nat.{_+_, _≤_};
 ghost use mathlib.Core.Bool.{true};
@@ -9,7 +9,8 @@ ghost use Rattle.enums.specs.Container as container;
 ghost use Rattle.reading.specs.Shown.{gotPadding};
 ghost use Rattle.format.specs.Read.{refused};
 ghost use Rattle.format.specs.DecodeContainer.{same, headerAt, alignmentAt, sectionsAt};
-ghost use Rattle.decoder.specs.Container.{gotHeader, gotSectionHeader, sectionHeaderAt, heldPlaces, rawSections, nowhere, opened, heldContainer};
+ghost use Rattle.decoder.specs.Container.{gotHeader, gotSectionHeader, sectionHeaderAt};
+ghost use Rattle.decoder.specs.Container.{nowhere, heldPlaces, rawSections, opened, heldContainer};
 use enums::BytecodeVersion;
 use enums::NUM_SECTIONS;
 use enums::Refusal;
@@ -58,6 +59,26 @@ pub enum SectionHeaderRead {
 pub enum HeaderRead {
     Got(BytecodeVersion, Reader),
     Stop(Refused),
+}
+
+// A refusal: document 01's number, the stage, and the file offset where it broke.
+pub struct Stopped {
+    pub no: u8,
+    pub stage: u8,
+    pub at: usize,
+}
+
+// Whether header and walk were passed.
+pub enum Judged {
+    Passed,
+    Stop(Stopped),
+}
+
+// Header and sections of a file; after a refusal version 0.0 and no payload.
+pub struct Container {
+    pub version: BytecodeVersion,
+    pub places: [SectionPlace; 8],
+    pub judged: Judged,
 }
 
 // No section has been met.
@@ -132,9 +153,9 @@ pub fn read_header(data: &[u8]) -> HeaderRead
                     at,
                 });
             }
-            match r.read_byte(data) {
+            match r.read_le_u8(data) {
                 ByteRead::Stop(x) => HeaderRead::Stop(x),
-                ByteRead::Got(major, r) => match r.read_byte(data) {
+                ByteRead::Got(major, r) => match r.read_le_u8(data) {
                     ByteRead::Stop(x) => HeaderRead::Stop(x),
                     ByteRead::Got(minor, r) => match r.read_le_u16(data) {
                         U16Read::Stop(x) => HeaderRead::Stop(x),
@@ -158,7 +179,7 @@ fn skip_alignment(data: &[u8], r: Reader, id_and_align: u8) -> PaddingRead
     }
     match r.read_varint(data) {
         NumRead::Stop(x) => PaddingRead::Stop(x),
-        NumRead::Got(alignment, r) => r.skip_padding(data, alignment),
+        NumRead::Got(alignment, next) => next.skip_padding(data, alignment),
     }
 }
 
@@ -226,26 +247,6 @@ pub fn read_sections(data: &[u8], start: Reader) -> RawSections
             }
         }
     }
-}
-
-// A refusal: document 01's number, the stage, and the file offset where it broke.
-pub struct Stopped {
-    pub no: u8,
-    pub stage: u8,
-    pub at: usize,
-}
-
-// Whether header and walk were passed.
-pub enum Judged {
-    Passed,
-    Stop(Stopped),
-}
-
-// Header and sections of a file; after a refusal version 0.0 and no payload.
-pub struct Container {
-    pub version: BytecodeVersion,
-    pub places: [SectionPlace; 8],
-    pub judged: Judged,
 }
 
 // The file is refused at a stage.

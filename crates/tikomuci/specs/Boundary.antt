@@ -5,7 +5,10 @@ use Prim.Native.Nat.{ℕ, _-_}
 use mathlib.Core.List.{List}
 use lib.IntN.{ℤ}
 use lib.ListN.{length}
+use native.Mathlib.Decide.{decLe}
 use Rattle.exact.specs.Got.{Got, got, stop}
+use Rattle.exact.specs.Exact.{Parser}
+use Rattle.exact.specs.Choice.{choose}
 use Rattle.enums.specs.Refusals as refusals
 use Rattle.encoding.specs.Out.{Wrote, wrote, refused, put, after}
 use Rattle.encoding.specs.Signed.{pattern}
@@ -44,6 +47,10 @@ number (stop c k) = refusedAs c
 abbrev pub signedNumber : ℕ → Got ℤ → Answer
 signedNumber w (got z j) = accepted (pattern w z) j
 signedNumber w (stop c k) = refusedAs c
+
+-- What p reads, from a place that is not past the data: "a primitive read past the data gives 2".
+unfoldable pub reached : {A : Type 0} → Parser A → Parser A
+reached p l i = choose (decLe i (length l)) (p l i) (stop refusals.short i)
 
 -- A run of bytes: where it starts, and the next place.
 abbrev pub run : Got (ℕ × List ℕ) → Answer

@@ -5,6 +5,7 @@ use encoding::EncodingWriter;
 use encoding::FloatType;
 use encoding::Patched;
 use encoding::Written;
+use enums::Refusal;
 use enums::Stage;
 use reading::ByteRead;
 use reading::BytesRead;
@@ -34,7 +35,7 @@ ghost use Rattle.encoding.specs.Varint.{spelling};
 ghost use Rattle.reading.specs.Numbers.{varintAt, signedVarintAt, signedAt, paddingAt, itemsAt, remainingAt, placed};
 ghost use Rattle.reading.specs.Shown.{gotByte, gotU16, gotU32, gotNum, gotI32, gotI64, gotBytes, gotPadding, gotItems};
 ghost use Rattle.decoder.specs.Views.{viewOf};
-ghost use Rattle.tikomuci.specs.Boundary.{accepted, refusedAs, Puts, Writes, WritesFloat, Patches, nextPlace, nextAligned, number, signedNumber, run, runOf, items, itemsOf, skipped};
+ghost use Rattle.tikomuci.specs.Boundary.{accepted, refusedAs, Puts, Writes, WritesFloat, Patches, nextPlace, nextAligned, number, signedNumber, reached, run, runOf, items, itemsOf, skipped};
 ghost use Rattle.tikomuci.specs.Views.{view, SectionViewed};
 
 // What every call that can be refused answers.
@@ -472,11 +473,14 @@ pub extern "C" fn tikomuci_read_byte(data: &[u8], at: u64) -> Answer
     byte_read(reader.read_byte(data))
 }
 
-// A run of n bytes: `first` is where it starts.
+// A run of n bytes: `first` is where it starts. Past the data even an empty one is refused.
 #[no_mangle]
 pub extern "C" fn tikomuci_read_bytes(data: &[u8], at: u64, n: u64) -> Answer
-    ensures { λ r. ⌜ r ≡ run (placed (raw n) (now («data» .entry)) at) ⌝ }
+    ensures { λ r. ⌜ r ≡ run (reached (placed (raw n)) (now («data» .entry)) at) ⌝ }
 {
+    if (data.len() as u64) < at {
+        return Answer::refuse(Refusal::SHORT);
+    }
     let reader = Reader { pos: at as usize };
     bytes_read(reader.read_bytes(data, n as usize))
 }

@@ -3,8 +3,8 @@ use mathlib.Core.Path.{ap, _∙_}
 use lib.ListN.{getD}
 use borrow.Author.Tests.{not-true, not-false}
 use Rattle.decoder.specs.Container.{nowhere}
-use Rattle.decoder.proofs.LawsOpened.{held-stop, held-passed, view-refused, view-there, view-absent}
-use Rattle.decoder.proofs.LawsViews.{section-post}
+use Rattle.decoder.proofs.LawsOpened.{held-stop, held-passed}
+use Rattle.decoder.proofs.LawsViews.{view-refused, view-there, view-absent, section-post}
 use borrow.Author.Needs.{needs}
 use Rattle.decoder.proofs.section.Statement.{statement}
 use Rattle.decoder.proofs.section.Tie as tie
@@ -23,19 +23,29 @@ get-requires c κs = search needs
 
 returns : tie.Need-returns
 returns c =
-    let (x, o, v, p) = held-passed _ _ (c .before .before .before .before .before .before .read-container .ensures) (c .before .before .before .before .match .keys2) in
-    let q = c .before .before .get .ensures ∙ ap (λ z. getD z (c .before .before .before .before .before .before .before .before .args .id) nowhere) p in
-    section-post _ _ _ (view-absent _ _ x o _ q (not-true _ (c .if1 .taken)))
+    let asked = c .before .before in
+    let test = asked .before .before in
+    let call = test .before .before in
+    let id = call .before .before .args .id in
+    let (x, o, version, places) = held-passed _ _ (call .read-container .ensures) (test .match .keys2) in
+    let place = asked .get .ensures ∙ ap (λ z. getD z id nowhere) places in
+    section-post _ _ _ (view-absent _ _ x o _ place (not-true _ (c .if1 .taken)))
 
 returns-2 : tie.Need-returns-2
 returns-2 c =
-    section-post _ _ _ (view-refused _ _ _ _ _ (held-stop _ _ _ (c .before .before .before .before .read-container .ensures) (c .before .judged .given .1)))
+    let a = c .before in
+    let refused = held-stop _ _ _ (a .before .before .before .read-container .ensures) (a .judged .given .1) in
+    section-post _ _ _ (view-refused _ _ _ _ _ refused)
 
 returns-3 : tie.Need-returns-3
 returns-3 c =
-    let (x, o, v, p) = held-passed _ _ (c .before .before .before .before .before .before .read-container .ensures) (c .before .before .before .before .match .keys2) in
-    let q = c .before .before .get .ensures ∙ ap (λ z. getD z (c .before .before .before .before .before .before .before .before .args .id) nowhere) p in
-    section-post _ _ _ (view-there _ _ x o _ q (not-false _ (c .if1 .left)))
+    let asked = c .before .before in
+    let test = asked .before .before in
+    let call = test .before .before in
+    let id = call .before .before .args .id in
+    let (x, o, version, places) = held-passed _ _ (call .read-container .ensures) (test .match .keys2) in
+    let place = asked .get .ensures ∙ ap (λ z. getD z id nowhere) places in
+    section-post _ _ _ (view-there _ _ x o _ place (not-false _ (c .if1 .left)))
 
 pub section-spec : {M : Type 1} → statement M
 section-spec =

@@ -11,9 +11,14 @@ pub struct Answer {
 }
 
 impl Answer {
-    /// A refusal of a call that reads no container: it stands at stage 10 and has no other data.
+    /// A refusal of a call that reads no container: it stands at stage 10.
     pub const fn refused(refusal: u64) -> Self {
-        Self { refusal, stage: STAGE_CALL, first: 0, second: 0 }
+        Self::refused_at(refusal, STAGE_CALL)
+    }
+
+    /// A refusal has its number and its stage, and no other data.
+    pub const fn refused_at(refusal: u64, stage: u64) -> Self {
+        Self { refusal, stage, first: 0, second: 0 }
     }
 
     pub const fn accepted(first: u64, second: u64) -> Self {
@@ -26,6 +31,11 @@ pub const OVERLONG: u64 = 3;
 pub const PADDING: u64 = 5;
 pub const FULL: u64 = 11;
 pub const ABSENT: u64 = 14;
+pub const LIMIT: u64 = 1;
+pub const MAGIC: u64 = 4;
+pub const STAGE_LIMITS: u64 = 0;
+pub const STAGE_HEADER: u64 = 1;
+pub const STAGE_SECTIONS: u64 = 2;
 pub const STAGE_CALL: u64 = 10;
 
 /// Calls that write plain numbers at a place of an output.
@@ -63,6 +73,19 @@ macro_rules! readers {
         $(pub fn $name(data: &[u8], at: u64, $($value: $kind),*) -> $answer {
             // SAFETY: the pointer and the length are those of a slice that nobody changes until the call returns.
             unsafe { $call(data.as_ptr(), data.len(), at, $($value),*) }
+        })*
+    };
+}
+
+/// Views of a file, by an index or an id.
+macro_rules! views {
+    ($($name:ident = $call:ident;)*) => {
+        extern "C" {
+            $(fn $call(file: *const u8, file_len: usize, index: u64) -> Answer;)*
+        }
+        $(pub fn $name(file: &[u8], index: u64) -> Answer {
+            // SAFETY: as above.
+            unsafe { $call(file.as_ptr(), file.len(), index) }
         })*
     };
 }
@@ -121,6 +144,10 @@ readers! {
     read_le_var_size_i32 = tikomuci_read_le_var_size_i32() -> Answer;
     read_le_var_size_i64 = tikomuci_read_le_var_size_i64() -> Answer;
     remaining = tikomuci_remaining() -> u64;
+}
+
+views! {
+    section = tikomuci_section;
 }
 
 conversions! {

@@ -3,9 +3,10 @@
 
 use std::panic::{catch_unwind, set_hook, take_hook, AssertUnwindSafe};
 
-use boundary::{Answer, ABSENT, FULL, SHORT};
-use oracle::bytecode::decoder::window::Reader;
+use boundary::{Answer, ABSENT, FULL, SHORT, STAGE_SECTIONS};
+use oracle::bytecode::decoder::{decode_bytecode, window::Reader};
 use oracle::bytecode::encoding::{patch_u32, patch_u64, EncodingWriter};
+use oracle::bytecode::MAGIC;
 
 use crate::tally::Tally;
 
@@ -36,6 +37,13 @@ fn run_whose_end_wraps() -> bool {
         && boundary::read_bytes(&[0], 1, u64::MAX) == Answer::refused(SHORT)
 }
 
+/// A section length of 2^64 - 1.
+fn section_whose_end_wraps() -> bool {
+    let file = [&MAGIC[..], &[13, 1, 0, 0, 1], &[0xFF; 9], &[1]].concat();
+    panics(|| decode_bytecode(&file).is_ok())
+        && boundary::section(&file, 1) == Answer::refused_at(SHORT, STAGE_SECTIONS)
+}
+
 /// Built without overflow checks, the Rust answers 2^64 - 1.
 fn remaining_past_the_end() -> bool {
     !matches!(catch_unwind(|| Reader::at(&[], 1).remaining()), Ok(0)) && boundary::remaining(&[], 1) == 0
@@ -43,11 +51,12 @@ fn remaining_past_the_end() -> bool {
 
 type Difference = (&'static str, fn() -> bool);
 
-const DIFFERENCES: [Difference; 5] = [
+const DIFFERENCES: [Difference; 6] = [
     ("an output that is too small", output_too_small),
     ("a patch outside the buffer", patch_outside),
     ("a patch whose end wraps", patch_whose_end_wraps),
     ("a run of bytes whose end wraps", run_whose_end_wraps),
+    ("a section whose end wraps", section_whose_end_wraps),
     ("what remains past the end", remaining_past_the_end),
 ];
 

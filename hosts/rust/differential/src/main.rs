@@ -1,6 +1,7 @@
-//! Compares every call of the library with encoding.rs and decoder.rs: answers, written bytes, and bytes that must stay.
-//! A seed may be given as the argument or in TIKOMUCI_SEED. Exits with 1 if anything differs.
+//! Compares every call of the library with encoding.rs and decoder.rs: answers, written bytes, and bytes that must
+//! stay. A seed may be given as the argument or in TIKOMUCI_SEED. Exits with 1 if anything differs.
 
+mod containers;
 mod differences;
 mod floats;
 mod readers;
@@ -36,6 +37,7 @@ fn main() -> ExitCode {
     };
     writers::compare(&mut random, &mut add);
     readers::compare(&mut random, &mut add);
+    containers::compare(&mut random, &mut add);
     floats::compare(&mut random, &mut add);
     differences::compare(&mut add);
     println!("{cases} cases compared, {differing} differ");

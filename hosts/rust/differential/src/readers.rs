@@ -66,8 +66,8 @@ fn places(len: usize) -> impl Iterator<Item = u64> {
     (0..=len as u64 + 1).chain([FAR, u64::MAX])
 }
 
-/// All byte strings of up to two bytes, and varints at every edge: shortest, longer, cut, with more after them, and past
-/// the tenth byte.
+/// All byte strings of up to two bytes, and varints at every edge: shortest, longer, cut, with more after them, and
+/// past the tenth byte.
 fn chosen_inputs() -> Vec<Vec<u8>> {
     let mut inputs = vec![vec![]];
     for a in 0..=255 {

@@ -92,8 +92,8 @@ impl Memory {
         Self { now: fresh.clone(), wanted: fresh.clone(), fresh }
     }
 
-    /// Lends `len` bytes to `call`. Gives its answer, and whether that is as wanted and all the memory is too: `spelling`
-    /// at its place if there is one, and every other byte as before.
+    /// Lends `len` bytes to `call`. Gives its answer, and whether that is as wanted and all the memory is too:
+    /// `spelling` at its place if there is one, and every other byte as before.
     fn lend(
         &mut self,
         len: usize,

@@ -83,12 +83,36 @@ impl<'a> Reader<'a> {
     }
 }
 
+/// Offset and length of each section's payload, or the error and whether the header was read before it. The steps are
+/// those of `decode_bytecode`, but for one: a length whose end would wrap is an error here, and a panic there.
+pub fn sections(data: &[u8]) -> std::result::Result<[Option<(u64, u64)>; 8], (Error, bool)> {
+    let mut reader = super::Reader::new(data);
+    reader.read_header().map_err(|error| (error, false))?;
+    let mut sections = super::RawSections::default();
+    loop {
+        let header = reader.read_section_header().map_err(|error| (error, true))?;
+        if header.id == super::Section::EndOfBytecode as u8 {
+            break;
+        }
+        if reader.pos.checked_add(header.data_len).is_none() {
+            return Err((super::err("unexpected end of data"), true));
+        }
+        let payload = reader.read_bytes(header.data_len).map_err(|error| (error, true))?;
+        sections.insert(header.id, payload);
+    }
+    Ok(std::array::from_fn(|id| {
+        let payload = sections.get(id as u8)?;
+        Some((payload.as_ptr() as u64 - data.as_ptr() as u64, payload.len() as u64))
+    }))
+}
+
 /// The refusal number that document 01 gives to an error of the reader.
 pub fn refusal(error: &Error) -> u64 {
     let Error::BytecodeWrite(message) = error;
     match message.as_str() {
         "decode: unexpected end of data" => 2,
         "decode: varint overflow" => 3,
+        "decode: invalid magic number" => 4,
         message if message.starts_with("decode: expected padding byte") => 5,
         message => panic!("the reader has no such error: {message}"),
     }

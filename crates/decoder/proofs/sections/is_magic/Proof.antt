@@ -1,5 +1,5 @@
 -- `is_magic` compares byte by byte (`Alike`). Assumes nothing.
-use mathlib.Core.Path.{_≡_, refl}
+use mathlib.Core.Path.{_≡_}
 use Prim.Native.Nat.{_-_, _≤_}
 use native.Mathlib.Omega.{arith}
 use native.Mathlib.Nat.{add-zero}
@@ -32,8 +32,10 @@ array-read-if1 c = search needs
 
 returns : tie.Need-returns Inv-loop μ-loop
 returns c =
-    let inv = c .before .before .before .loop .inv in
-    alike-not _ _ _ (c .before .before .before .before .before .before .pre) (c .before .before .loop-test .taken) (inv .2) (rw (inv .1) at (c .if1 .taken))
+    let turn = c .before .before .before in
+    let fits = turn .before .before .before .pre in
+    let inv = turn .loop .inv in
+    alike-not _ _ _ fits (c .before .before .loop-test .taken) (inv .2) (rw (inv .1) at (c .if1 .taken))
 
 add-i : tie.Need-add-i Inv-loop μ-loop
 add-i c = search needs
@@ -43,8 +45,11 @@ loop-less c = search needs
 
 loop-again : tie.Need-loop-again Inv-loop μ-loop
 loop-again c =
-    let inv = c .before .before .before .loop .inv in
-    (omega arith, inv .1, alike-more _ _ _ (c .before .before .before .before .before .before .pre) (c .before .before .loop-test .taken) (inv .2) (rw (inv .1) at (c .if1 .left)))
+    let turn = c .before .before .before in
+    let fits = turn .before .before .before .pre in
+    let inv = turn .loop .inv in
+    let alike = alike-more _ _ _ fits (c .before .before .loop-test .taken) (inv .2) (rw (inv .1) at (c .if1 .left)) in
+    (omega arith, inv .1, alike)
 
 returns-2 : tie.Need-returns-2 Inv-loop μ-loop
 returns-2 c = let e : c .before .loop .i ≡ 8 = omega arith in alike-all _ _ _ e (c .before .loop .inv .2)

@@ -1,8 +1,9 @@
 -- `read_container` answers what limit, header and walk give (`opened`). Assumes nothing.
-use mathlib.Core.Path.{_≡_, sym, ap, _∙_}
+use mathlib.Core.Path.{sym, ap, _∙_}
 use Rattle.decoder.specs.Container.{heldContainer}
 use Rattle.decoder.proofs.LawsShown.{told-version}
-use Rattle.decoder.proofs.LawsOpened.{raw-stop, raw-end, opened-limit, opened-header, opened-sections, opened-got}
+use Rattle.decoder.proofs.LawsOpened.{raw-stop, raw-end}
+use Rattle.decoder.proofs.LawsOpened.{opened-limit, opened-header, opened-sections, opened-got}
 use borrow.Author.Needs.{needs}
 use Rattle.decoder.proofs.sections.read_container.Statement.{statement}
 use Rattle.decoder.proofs.sections.read_container.Tie as tie
@@ -40,17 +41,28 @@ enum-told c = search needs
 
 returns-2 : tie.Need-returns-2
 returns-2 c =
-    c .refused-container2 .ensures ∙ ap heldContainer (sym (opened-header _ (c .before .before .before .before .before .if1 .left) _ _ (told-version (c .before .before .x .given .1) (c .before .before .before .before .read-header .ensures))))
+    let a = c .before .before in
+    let header = told-version (a .x .given .1) (a .before .before .read-header .ensures) in
+    let refused = opened-header _ (a .before .before .before .if1 .left) _ _ header in
+    c .refused-container2 .ensures ∙ ap heldContainer (sym refused)
 
 returns-3 : tie.Need-returns-3
 returns-3 c =
-    let g = raw-stop _ _ _ (c .before .before .before .before .before .read-sections .ensures) (c .before .before .walked .given .1) in
-    c .refused-container3 .ensures ∙ ap heldContainer (sym (opened-sections _ (c .before .before .before .before .before .before .before .before .before .before .if1 .left) _ _ (told-version (c .before .before .before .before .before .before .before .version .given .1) (c .before .before .before .before .before .before .before .before .before .read-header .ensures)) _ _ g))
+    let b = c .before .before in
+    let walk = b .before .before .before in
+    let a = walk .before .before in
+    let header = told-version (a .version .given .1) (a .before .before .read-header .ensures) in
+    let sections = raw-stop _ _ _ (walk .read-sections .ensures) (b .walked .given .1) in
+    let refused = opened-sections _ (a .before .before .before .if1 .left) _ _ header _ _ sections in
+    c .refused-container3 .ensures ∙ ap heldContainer (sym refused)
 
 returns-4 : tie.Need-returns-4
 returns-4 c =
-    let (ss, k, g, p) = raw-end _ _ (c .before .before .before .read-sections .ensures) (c .before .match2 .keys2) in
-    rw (p, opened-got _ (c .before .before .before .before .before .before .before .before .if1 .left) _ _ (told-version (c .before .before .before .before .before .version .given .1) (c .before .before .before .before .before .before .before .read-header .ensures)) ss k g)
+    let walk = c .before .before .before in
+    let a = walk .before .before in
+    let header = told-version (a .version .given .1) (a .before .before .read-header .ensures) in
+    let (ss, k, sections, places) = raw-end _ _ (walk .read-sections .ensures) (c .before .match2 .keys2) in
+    rw (places, opened-got _ (a .before .before .before .if1 .left) _ _ header ss k sections)
 
 pub read-container-spec : {M : Type 1} → statement M
 read-container-spec =

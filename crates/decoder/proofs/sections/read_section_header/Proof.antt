@@ -1,7 +1,8 @@
 -- `read_section_header` answers id and length; its steps follow `sectionHeaderAt`. Assumes nothing.
 use lib.Bits.{and-mask}
 use Rattle.reading.proofs.LawsShown.{told-byte, told-num, told-padding}
-use Rattle.decoder.proofs.LawsItem.{header-no-byte, header-end, header-no-length, header-no-alignment, header-got}
+use Rattle.decoder.proofs.LawsItem.{header-no-byte, header-end, header-no-length}
+use Rattle.decoder.proofs.LawsItem.{header-no-alignment, header-got}
 use borrow.Author.Needs.{needs}
 use Rattle.decoder.proofs.sections.read_section_header.Statement.{statement}
 use Rattle.decoder.proofs.sections.read_section_header.Tie as tie
@@ -17,7 +18,9 @@ enum-known-id-and-align c = search needs
 
 returns : tie.Need-returns
 returns c =
-    header-end _ _ _ _ _ (told-byte (c .before .before .id-and-align .given .1) (c .before .before .before .before .read-byte .ensures)) (and-mask _ 7) (c .if1 .taken)
+    let a = c .before .before in
+    let byte = told-byte (a .id-and-align .given .1) (a .before .before .read-byte .ensures) in
+    header-end _ _ _ _ _ byte (and-mask _ 7) (c .if1 .taken)
 
 read-varint-requires : tie.Need-read-varint-requires
 read-varint-requires c κs = search needs
@@ -43,15 +46,34 @@ returns-2 c =
 
 returns-3 : tie.Need-returns-3
 returns-3 c =
-    header-no-length _ _ _ _ _ (told-byte (c .before .before .before .before .before .before .id-and-align .given .1) (c .before .before .before .before .before .before .before .before .read-byte .ensures)) (and-mask _ 7) (c .before .before .before .before .if1 .left) _ _ (told-num (c .before .x2 .given .1) (c .before .before .before .read-varint .ensures))
+    let b = c .before in
+    let test = b .before .before .before in
+    let a = test .before .before in
+    let byte = told-byte (a .id-and-align .given .1) (a .before .before .read-byte .ensures) in
+    let length = told-num (b .x2 .given .1) (b .before .before .read-varint .ensures) in
+    header-no-length _ _ _ _ _ byte (and-mask _ 7) (test .if1 .left) _ _ length
 
 returns-4 : tie.Need-returns-4
 returns-4 c =
-    header-no-alignment _ _ _ _ _ (told-byte (c .before .before .before .before .before .before .before .before .before .before .id-and-align .given .1) (c .before .before .before .before .before .before .before .before .before .before .before .before .read-byte .ensures)) (and-mask _ 7) (c .before .before .before .before .before .before .before .before .if1 .left) _ _ (told-num (c .before .before .before .before .before .length .given .1) (c .before .before .before .before .before .before .before .read-varint .ensures)) _ _ (told-padding (c .before .x3 .given .1) (c .before .before .before .skip-alignment .ensures))
+    let d = c .before in
+    let b = d .before .before .before .before in
+    let test = b .before .before .before in
+    let a = test .before .before in
+    let byte = told-byte (a .id-and-align .given .1) (a .before .before .read-byte .ensures) in
+    let length = told-num (b .length .given .1) (b .before .before .read-varint .ensures) in
+    let alignment = told-padding (d .x3 .given .1) (d .before .before .skip-alignment .ensures) in
+    header-no-alignment _ _ _ _ _ byte (and-mask _ 7) (test .if1 .left) _ _ length _ _ alignment
 
 returns-5 : tie.Need-returns-5
 returns-5 c =
-    header-got _ _ _ _ _ (told-byte (c .before .before .before .before .before .before .before .before .before .before .id-and-align .given .1) (c .before .before .before .before .before .before .before .before .before .before .before .before .read-byte .ensures)) (and-mask _ 7) (c .before .before .before .before .before .before .before .before .if1 .left) _ _ (told-num (c .before .before .before .before .before .length .given .1) (c .before .before .before .before .before .before .before .read-varint .ensures)) _ (told-padding (c .before .r .given .1) (c .before .before .before .skip-alignment .ensures))
+    let d = c .before in
+    let b = d .before .before .before .before in
+    let test = b .before .before .before in
+    let a = test .before .before in
+    let byte = told-byte (a .id-and-align .given .1) (a .before .before .read-byte .ensures) in
+    let length = told-num (b .length .given .1) (b .before .before .read-varint .ensures) in
+    let alignment = told-padding (d .r .given .1) (d .before .before .skip-alignment .ensures) in
+    header-got _ _ _ _ _ byte (and-mask _ 7) (test .if1 .left) _ _ length _ alignment
 
 pub read-section-header-spec : {M : Type 1} → statement M
 read-section-header-spec =

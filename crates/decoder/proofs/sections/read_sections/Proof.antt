@@ -1,7 +1,6 @@
 -- `read_sections` walks from section to section (`Walk`); what is left falls with each. Assumes nothing.
-use mathlib.Core.Path.{_≡_, refl, sym, ap, _∙_}
-use Prim.Native.Nat.{_-_, _<_}
-use native.Mathlib.Omega.{arith}
+use mathlib.Core.Path.{sym, ap, _∙_}
+use Prim.Native.Nat.{_-_}
 use lib.ListN.{length}
 use Rattle.reading.proofs.LawsShown.{told-bytes}
 use Rattle.decoder.specs.Container.{rawSections}
@@ -22,8 +21,7 @@ no-sections-requires : tie.Need-no-sections-requires Inv-loop μ-loop
 no-sections-requires c κs = search needs
 
 loop-holds : tie.Need-loop-holds Inv-loop μ-loop
-loop-holds c =
-    walk-start _ _ _ (c .no-sections .ensures)
+loop-holds c = walk-start _ _ _ (c .no-sections .ensures)
 
 read-section-header-requires : tie.Need-read-section-header-requires Inv-loop μ-loop
 read-section-header-requires c κs = search needs
@@ -54,24 +52,48 @@ insert-requires c κs = search needs
 
 loop-less : tie.Need-loop-less Inv-loop μ-loop
 loop-less c =
-    walk-less (c .before .before .before .before .before .before .before .before .before .before .before .loop .inv) _ _ (told-header (c .before .before .before .before .before .before .before .before .sh .given .1) (c .before .before .before .before .before .before .before .before .before .before .read-section-header .ensures)) (c .before .before .before .before .before .if1 .left) _ _ _ (told-bytes _ (c .before .before .at .given .1) (c .before .before .before .before .read-bytes .ensures))
+    let b = c .before .before in
+    let test = b .before .before .before in
+    let a = test .before .before .before in
+    let header = told-header (a .sh .given .1) (a .before .before .read-section-header .ensures) in
+    let run = told-bytes _ (b .at .given .1) (b .before .before .read-bytes .ensures) in
+    let walk = a .before .before .before .loop .inv in
+    walk-less walk _ _ header (test .if1 .left) _ _ _ run
 
 loop-again : tie.Need-loop-again Inv-loop μ-loop
 loop-again c =
-    walk-on (c .before .before .before .before .before .before .before .before .before .before .before .loop .inv) _ _ (told-header (c .before .before .before .before .before .before .before .before .sh .given .1) (c .before .before .before .before .before .before .before .before .before .before .read-section-header .ensures)) (c .before .before .before .before .before .if1 .left) _ _ _ (told-bytes _ (c .before .before .at .given .1) (c .before .before .before .before .read-bytes .ensures)) _ (c .insert .ensures)
+    let b = c .before .before in
+    let test = b .before .before .before in
+    let a = test .before .before .before in
+    let header = told-header (a .sh .given .1) (a .before .before .read-section-header .ensures) in
+    let run = told-bytes _ (b .at .given .1) (b .before .before .read-bytes .ensures) in
+    let walk = a .before .before .before .loop .inv in
+    walk-on walk _ _ header (test .if1 .left) _ _ _ run _ (c .insert .ensures)
 
 returns : tie.Need-returns Inv-loop μ-loop
 returns c =
-    c .refused-walk .ensures ∙ ap rawSections (sym (walk-refused (c .before .before .before .before .before .loop .inv) _ _ (item-no-header _ _ _ _ (told-header (c .before .before .x .given .1) (c .before .before .before .before .read-section-header .ensures)))))
+    let a = c .before .before in
+    let header = told-header (a .x .given .1) (a .before .before .read-section-header .ensures) in
+    let refused = walk-refused (a .before .before .before .loop .inv) _ _ (item-no-header _ _ _ _ header) in
+    c .refused-walk .ensures ∙ ap rawSections (sym refused)
 
 returns-2 : tie.Need-returns-2 Inv-loop μ-loop
 returns-2 c =
-    let w = c .before .before .before .before .before .before .loop .inv in
-    rw (walk-ended w _ (item-end _ _ _ _ (told-header (c .before .before .before .sh .given .1) (c .before .before .before .before .before .read-section-header .ensures)) (c .if1 .taken)), w .places)
+    let a = c .before .before .before in
+    let header = told-header (a .sh .given .1) (a .before .before .read-section-header .ensures) in
+    let walk = a .before .before .before .loop .inv in
+    rw (walk-ended walk _ (item-end _ _ _ _ header (c .if1 .taken)), walk .places)
 
 returns-3 : tie.Need-returns-3 Inv-loop μ-loop
 returns-3 c =
-    c .refused-walk2 .ensures ∙ ap rawSections (sym (walk-refused (c .before .before .before .before .before .before .before .before .before .before .before .loop .inv) _ _ (item-short _ _ _ _ (told-header (c .before .before .before .before .before .before .before .before .sh .given .1) (c .before .before .before .before .before .before .before .before .before .before .read-section-header .ensures)) (c .before .before .before .before .before .if1 .left) _ _ (told-bytes _ (c .before .before .x2 .given .1) (c .before .before .before .before .read-bytes .ensures)))))
+    let b = c .before .before in
+    let test = b .before .before .before in
+    let a = test .before .before .before in
+    let header = told-header (a .sh .given .1) (a .before .before .read-section-header .ensures) in
+    let run = told-bytes _ (b .x2 .given .1) (b .before .before .read-bytes .ensures) in
+    let walk = a .before .before .before .loop .inv in
+    let refused = walk-refused walk _ _ (item-short _ _ _ _ header (test .if1 .left) _ _ run) in
+    c .refused-walk2 .ensures ∙ ap rawSections (sym refused)
 
 pub read-sections-spec : {M : Type 1} → statement M
 read-sections-spec =

@@ -23,12 +23,14 @@ skip-padding-requires c κs = search needs
 
 returns-2 : tie.Need-returns-2
 returns-2 c =
-    alignment-stop _ _ _ (c .before .before .before .before .if1 .left) _ _ (told-num (c .before .x .given .1) (c .before .before .before .read-varint .ensures))
+    let number = told-num (c .before .x .given .1) (c .before .before .before .read-varint .ensures) in
+    alignment-stop _ _ _ (c .before .before .before .before .if1 .left) _ _ number
 
 returns-3 : tie.Need-returns-3
 returns-3 c =
-    c .skip-padding .ensures ∙
-    alignment-got _ _ _ (c .before .before .before .before .before .if1 .left) _ _ (told-num (c .before .before .alignment .given .1) (c .before .before .before .before .read-varint .ensures))
+    let a = c .before .before in
+    let number = told-num (a .alignment .given .1) (a .before .before .read-varint .ensures) in
+    c .skip-padding .ensures ∙ alignment-got _ _ _ (a .before .before .before .if1 .left) _ _ number
 
 pub skip-alignment-spec : {M : Type 1} → statement M
 skip-alignment-spec =

@@ -1,0 +1,98 @@
+-- What the readers of Global and Func answer, over the model (document 01, "The container": Global, Func; "The sheet":
+-- global, 6 words; function, name, signature, flags, location, body length).
+use mathlib.Core.Path.{_≡_}
+use Prim.Native.Nat.{ℕ, _+_, _-_}
+use mathlib.Core.Bool.{true, Bool-discrete}
+use mathlib.Core.List.{List, [], map}
+use lib.ListN.{length, take, drop}
+use Rattle.exact.specs.Got.{Got, got, stop, follow}
+use Rattle.exact.specs.Exact.{Parser}
+use Rattle.exact.specs.Basic.{byte}
+use Rattle.exact.specs.Sequence as sequence
+use Rattle.exact.specs.Tiling.{join}
+use Rattle.exact.specs.Entries as table
+use Rattle.enums.specs.declared.VersionClass.{VersionClass}
+use Rattle.reading.specs.Numbers.{varintAt}
+use Rattle.format.specs.Tables.{Global, Function}
+use Rattle.format.specs.Items.{truth, since13·3}
+use Rattle.format.specs.Functions.{Located, apart}
+use Rattle.format.specs.DecodeTables.{fieldAt}
+use Rattle.format.specs.Sheet.{FunctionRow, functionRowOf, globalWords, functionWords}
+use Rattle.decoder.specs.Fill.{Rows, Fills}
+use Rattle.decoder.specs.declared.answers.Filled.{Filled}
+use Rattle.decoder.specs.declared.answers.TableRead.{TableRead}
+use Rattle.decoder.specs.declared.rows.Linkage.{Linkage}
+use Rattle.decoder.specs.declared.rows.LinkageRead.{LinkageRead}
+use Rattle.decoder.specs.declared.rows.LinkageRead.the-variants as linkage
+use Rattle.decoder.specs.declared.rows.GlobalRow.{GlobalRow}
+use Rattle.decoder.specs.declared.rows.GlobalRead.{GlobalRead}
+use Rattle.decoder.specs.declared.rows.GlobalRead.the-variants as global
+use Rattle.decoder.specs.declared.rows.FuncHead.{FuncHead}
+use Rattle.decoder.specs.declared.rows.FuncRow.{FuncRow}
+use Rattle.decoder.specs.declared.rows.FuncRead.{FuncRead}
+use Rattle.decoder.specs.declared.rows.FuncRead.the-variants as func
+
+-- Visibility and constant flag: from 13.3 on, else 0 and 0.
+unfoldable pub linkageAt : VersionClass → Parser (ℕ × ℕ)
+linkageAt c =
+    sequence.bind (fieldAt (Bool-discrete (since13·3 c) true) byte)
+    (λ v. sequence.map (λ f. (v, f)) (fieldAt (Bool-discrete (since13·3 c) true) (sequence.map truth varintAt)))
+
+abbrev pub gotLinkage : LinkageRead → Got (ℕ × ℕ)
+gotLinkage (linkage.Got k r) = got (k .visibility, k .constant) (r .pos)
+gotLinkage (linkage.Stop x) = stop (x .no) (x .at)
+
+-- The global that a row stands for.
+abbrev pub globalOf : GlobalRow → Global
+globalOf g =
+    record {
+      name = g .«name_idx»;
+      type = g .«type_idx»;
+      constant = g .«const_idx»;
+      alignment = g .alignment;
+      visibility = g .linkage .visibility;
+      constantFlag = g .linkage .constant;
+    }
+
+abbrev pub gotGlobal : GlobalRead → Got Global
+gotGlobal (global.Got g r) = got (globalOf g) (r .pos)
+gotGlobal (global.Stop x) = stop (x .no) (x .at)
+
+-- The rows of globals: six words each, and no run of bytes.
+unfoldable pub globalRows : Got (List Global) → Got Rows
+globalRows g = follow g (λ vs j. got (record { rows = length vs; words = join (map globalWords vs); runs = [] }) j)
+
+-- No run of bytes is put: any pool stays as it is.
+abbrev pub FillsSheet : Filled → Got Rows → List ℕ → List ℕ → TableRead → Type 0
+FillsSheet at g sheet sheet' r = (pool : List ℕ) → Fills at g sheet sheet' pool pool r
+
+-- The row of a function whose body has n bytes.
+abbrev pub rowOf : FuncHead → ℕ → FunctionRow
+rowOf f n =
+    record { name = f .«name_idx»; signature = f .«sig_idx»; flags = f .flags; location = f .«loc_idx»; bodyLength = n }
+
+-- The function with this body.
+abbrev pub functionOf : FuncHead → List ℕ → Function
+functionOf f body =
+    record { name = f .«name_idx»; signature = f .«sig_idx»; flags = f .flags; location = f .«loc_idx»; body = body }
+
+-- The body is what the payload l has up to the next place; its own place counts from o bytes before l.
+abbrev pub gotFunction : ℕ → List ℕ → FuncRead → Got (Located Function)
+gotFunction o l (func.Got f r) =
+    got (record { at = o + f .body; value = functionOf (f .head) (take (r .pos - f .body) (drop (f .body) l)) }) (r .pos)
+gotFunction o l (func.Stop x) = stop (x .no) (x .at)
+
+-- The answer is what p reads, wherever the payload stands.
+abbrev pub Gives : List ℕ → (ℕ → Parser (Located Function)) → ℕ → FuncRead → Type 0
+Gives l p i r = (o : ℕ) → gotFunction o l r ≡ p o l i
+
+-- The rows of functions: five words each, and the body in the pool.
+abbrev pub bodied : List Function → Rows
+bodied fs =
+    record { rows = length fs; words = join (map functionWords (map functionRowOf fs)); runs = map (λ f. f .body) fs }
+
+unfoldable pub locatedRows : Got (List (Located Function)) → Got Rows
+locatedRows g = follow g (λ vs j. got (bodied (apart vs .values)) j)
+
+unfoldable pub functionRows : Got (table.Rows Function) → Got Rows
+functionRows g = follow g (λ v j. got (bodied (v .values)) j)

@@ -1,0 +1,26 @@
+// Words in a lent byte store, little-endian, whole words only; and runs of bytes in a lent pool. What has no room is not
+// stored, so that one function measures on an empty store and fills a large enough one.
+use encoding::EncodingWriter;
+ghost use mathlib.Core.Path.{_≡_};
+ghost use Rattle.encoding.specs.Out.{put};
+ghost use Rattle.sheet.specs.Store.{putWord};
+
+// Stores word i where the store has it, and else nothing.
+pub fn put_word(store: &mut [u8], i: usize, w: u64)
+    ensures { λ _. ⌜ now (store .exit) ≡ putWord (now (store .entry)) i w ⌝ }
+{
+    if i < store.len() / 8 {
+        encoding::patch_u64(store, i * 8, w);
+    }
+}
+
+// Stores a run of bytes at a place of the pool where it has room, and else nothing.
+pub fn put_run(pool: &mut [u8], at: usize, run: &[u8])
+    ensures { λ _. ⌜ now (pool .exit) ≡ put (now (pool .entry)) at (now (run .entry)) ⌝ }
+{
+    let writer = EncodingWriter {
+        at,
+        required_alignment: 1,
+    };
+    writer.write_bytes(pool, run);
+}
