@@ -15,7 +15,7 @@ use Rattle.exact.proofs.LawsRepeat.{times-exact, many-length}
 use Rattle.sheet.specs.Store.{putWords, putRuns}
 use Rattle.sheet.proofs.LawsStore.{putWords-append, putRuns-append}
 use Rattle.reading.specs.declared.Refused.{Refused}
-use Rattle.decoder.specs.Fill.{Rows, Fills, countOf, behind}
+use Rattle.decoder.specs.Fill.{Rows, Fills, countOf}
 use Rattle.decoder.specs.declared.answers.Filled.{Filled}
 use Rattle.decoder.specs.declared.answers.TableRead.{TableRead}
 use Rattle.decoder.specs.declared.answers.TableRead.the-variants as table

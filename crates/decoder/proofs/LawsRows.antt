@@ -1,14 +1,14 @@
 -- The steps of the readers of Global and Func, by the model. Assumes nothing.
 use mathlib.Core.Path.{_≡_, refl, sym, ap, _∙_, subst}
-use Prim.Native.Nat.{ℕ, suc, _+_, _-_, _*_, _/_, _%_, _≤_, _<_}
+use Prim.Native.Nat.{ℕ, suc, _+_, _-_, _/_, _%_, _≤_, _<_}
 use native.Mathlib.Decide.{ℕ-discrete}
 use native.Mathlib.Nat.{add-zero}
 use native.Mathlib.Omega.{arith}
-use mathlib.Core.Bool.{Bool, true, false, Bool-discrete}
+use mathlib.Core.Bool.{true, false, Bool-discrete}
 use mathlib.Core.List.{List, [], _∷_, _++_, map, append-nil}
 use lib.ListN.{length, take, drop, length-append, length-drop}
 use Rattle.exact.specs.Got.{Got, got, stop, follow}
-use Rattle.exact.specs.Exact.{Parser, Reads}
+use Rattle.exact.specs.Exact.{Parser}
 use Rattle.exact.specs.Basic.{byte, pure}
 use Rattle.exact.specs.Sequence as sequence
 use Rattle.exact.specs.Choice.{choose}
@@ -39,10 +39,8 @@ use Rattle.format.proofs.LawsRows.{global-exact, function-exact}
 use Rattle.decoder.specs.Fill.{Rows, Fills}
 use Rattle.decoder.specs.declared.answers.Filled.{Filled}
 use Rattle.decoder.specs.declared.answers.TableRead.{TableRead}
-use Rattle.decoder.specs.declared.answers.TableRead.the-variants as table
 use Rattle.decoder.specs.declared.rows.FuncRow.{FuncRow}
-use Rattle.decoder.specs.Rows.{linkageAt, globalRows, rowOf, functionOf, bodied, locatedRows, functionRows}
-use Rattle.decoder.proofs.LawsFill.{fills-stop}
+use Rattle.decoder.specs.Rows.{linkageAt, globalRows, rowOf, bytesIn, locatedIn, bodied, locatedRows, functionRows}
 use Rattle.decoder.proofs.LawsFilling.{Filling, filling-more, filling-fills, fills-upto}
 
 -- A flag is 0 or 1.
@@ -280,22 +278,16 @@ globals-more c m l i w b s s' p n v j s₁ r h a e x =
 
 -- One function more.
 module _ (m : ℕ) (l : List ℕ) (i w b : ℕ) (s s' p p' : List ℕ) (n : ℕ) (f : FuncRow) (k : ℕ) (s₁ p₁ : List ℕ) (r : TableRead) where
-  abbrev bytesIn : List ℕ
-  bytesIn = take (k - f .body) (drop (f .body) l)
-
-  abbrev rowIn : Located Function
-  rowIn = record { at = 0 + f .body; value = functionOf (f .head) bytesIn }
-
-  pub funcs-more : i ≤ length l → 0 < n → functionAt 0 l i ≡ got rowIn k →
-      s₁ ≡ putWords s w (functionWords (rowOf (f .head) (k - f .body))) → p₁ ≡ put p b bytesIn →
+  pub funcs-more : i ≤ length l → 0 < n → functionAt 0 l i ≡ got (locatedIn 0 l f k) k →
+      s₁ ≡ putWords s w (functionWords (rowOf (f .head) (k - f .body))) → p₁ ≡ put p b (bytesIn l f k) →
       Filling funcWords funcRuns m (times (n - 1) (functionAt 0) l k) (w + 5) (b + (k - f .body)) s₁ s' p₁ p' r →
       Filling funcWords funcRuns m (times n (functionAt 0) l i) w b s s' p p' r
   unfolding putRuns functionWords functionRowOf
   funcs-more g h a e d x =
-      let q = function-in l i rowIn k g a in
-      let z : length bytesIn ≡ k - f .body = omega (arith, q .1) in
-      let y : k - f .body ≡ length (bytesIn ++ []) = sym z ∙ ap length (sym (append-nil bytesIn)) in
-      filling-more funcWords funcRuns (functionAt 0) m l i w b s s' p p' n rowIn k s₁ p₁ r h a
+      let q = function-in l i (locatedIn 0 l f k) k g a in
+      let z : length (bytesIn l f k) ≡ k - f .body = omega (arith, q .1) in
+      let y : k - f .body ≡ length ((bytesIn l f k) ++ []) = sym z ∙ ap length (sym (append-nil (bytesIn l f k))) in
+      filling-more funcWords funcRuns (functionAt 0) m l i w b s s' p p' n (locatedIn 0 l f k) k s₁ p₁ r h a
       (e ∙ ap (λ t. putWords s w (functionWords (rowOf (f .head) t))) (sym z)) d
       (subst (λ t. Filling funcWords funcRuns m (times (n - 1) (functionAt 0) l k) (w + 5) (b + t) s₁ s' p₁ p' r) y x)
 

@@ -10,3 +10,11 @@ pub mod LawsTables
 pub mod LawsProducer
 pub mod LawsFilling
 pub mod LawsRows
+pub mod LawsBodies
+pub mod LawsWords
+pub mod LawsFields
+pub mod LawsTypes
+pub mod LawsTypeEntries
+pub mod LawsTypeSection
+pub mod LawsTypeTable
+pub mod LawsDebug

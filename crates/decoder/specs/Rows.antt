@@ -9,6 +9,7 @@ use Rattle.exact.specs.Got.{Got, got, stop, follow}
 use Rattle.exact.specs.Exact.{Parser}
 use Rattle.exact.specs.Basic.{byte}
 use Rattle.exact.specs.Sequence as sequence
+use Rattle.exact.specs.Repeat.{times}
 use Rattle.exact.specs.Tiling.{join}
 use Rattle.exact.specs.Entries as table
 use Rattle.enums.specs.declared.VersionClass.{VersionClass}
@@ -17,11 +18,13 @@ use Rattle.format.specs.Tables.{Global, Function}
 use Rattle.format.specs.Items.{truth, since13·3}
 use Rattle.format.specs.Functions.{Located, apart}
 use Rattle.format.specs.DecodeTables.{fieldAt}
+use Rattle.format.specs.DecodeRows.{functionAt, functionsAt}
 use Rattle.format.specs.Sheet.{FunctionRow, functionRowOf, globalWords, functionWords}
 use Rattle.decoder.specs.Fill.{Rows, Fills}
+use Rattle.decoder.specs.Tables.{placeOf, entryIn}
+use Rattle.decoder.specs.declared.tables.EntryPlace.{EntryPlace}
 use Rattle.decoder.specs.declared.answers.Filled.{Filled}
 use Rattle.decoder.specs.declared.answers.TableRead.{TableRead}
-use Rattle.decoder.specs.declared.rows.Linkage.{Linkage}
 use Rattle.decoder.specs.declared.rows.LinkageRead.{LinkageRead}
 use Rattle.decoder.specs.declared.rows.LinkageRead.the-variants as linkage
 use Rattle.decoder.specs.declared.rows.GlobalRow.{GlobalRow}
@@ -76,10 +79,16 @@ abbrev pub functionOf : FuncHead → List ℕ → Function
 functionOf f body =
     record { name = f .«name_idx»; signature = f .«sig_idx»; flags = f .flags; location = f .«loc_idx»; body = body }
 
--- The body is what the payload l has up to the next place; its own place counts from o bytes before l.
+-- What the payload l has from a row's body up to the place j.
+abbrev pub bytesIn : List ℕ → FuncRow → ℕ → List ℕ
+bytesIn l f j = take (j - f .body) (drop (f .body) l)
+
+-- The function of a row whose body ends at j; the place of the body counts from o bytes before l.
+abbrev pub locatedIn : ℕ → List ℕ → FuncRow → ℕ → Located Function
+locatedIn o l f j = record { at = o + f .body; value = functionOf (f .head) (bytesIn l f j) }
+
 abbrev pub gotFunction : ℕ → List ℕ → FuncRead → Got (Located Function)
-gotFunction o l (func.Got f r) =
-    got (record { at = o + f .body; value = functionOf (f .head) (take (r .pos - f .body) (drop (f .body) l)) }) (r .pos)
+gotFunction o l (func.Got f r) = got (locatedIn o l f (r .pos)) (r .pos)
 gotFunction o l (func.Stop x) = stop (x .no) (x .at)
 
 -- The answer is what p reads, wherever the payload stands.
@@ -96,3 +105,16 @@ locatedRows g = follow g (λ vs j. got (bodied (apart vs .values)) j)
 
 unfoldable pub functionRows : Got (table.Rows Function) → Got Rows
 functionRows g = follow g (λ v j. got (bodied (v .values)) j)
+
+-- The bodies of functions, with their places.
+abbrev pub bodiesOf : table.Rows Function → table.Rows (List ℕ)
+bodiesOf v = record { at = v .at; values = map (λ f. f .body) (v .values) }
+
+-- Where m functions are read from place i of l on, the answer is the place of the body of number n of them.
+pub record FindsRest (l : List ℕ) (m n i : ℕ) (r : EntryPlace) : Type 0 where
+  pub found : (o : ℕ) (vs : List (Located Function)) (j : ℕ) → times m (functionAt o) l i ≡ got vs j →
+      placeOf o r ≡ entryIn (bodiesOf (apart vs)) n
+
+-- Where the section is accepted, the answer is the place of the body of its function n.
+pub record FindsBody (l : List ℕ) (n : ℕ) (r : EntryPlace) : Type 0 where
+  pub found : (o : ℕ) (v : table.Rows Function) (j : ℕ) → functionsAt o l 0 ≡ got v j → placeOf o r ≡ entryIn (bodiesOf v) n

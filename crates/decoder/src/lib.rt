@@ -1,8 +1,11 @@
 // decoder.rs: reads a file of Tile IR bytecode.
-pub mod answers;
+mod answers;
+mod debug;
+mod fields;
 mod rows;
 pub mod sections;
 mod tables;
+mod types;
 
 ghost use Rattle.decoder.specs.Views.{SectionPost};
 use enums::Refusal;

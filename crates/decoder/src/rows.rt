@@ -10,9 +10,10 @@ ghost use Rattle.format.specs.Sheet.{globalWords, functionWords};
 ghost use Rattle.format.specs.DecodeRows.{globalAt, globalsAt, bodyAt, functionAt, functionsAt};
 ghost use Rattle.sheet.specs.Store.{putWords};
 ghost use Rattle.decoder.specs.Fill.{Fills, Fits};
-ghost use Rattle.decoder.specs.Rows.{gotLinkage, linkageAt, globalOf, gotGlobal, globalRows, FillsSheet, rowOf, Gives, locatedRows, functionRows};
+ghost use Rattle.decoder.specs.Rows.{gotLinkage, linkageAt, globalOf, gotGlobal, globalRows, FillsSheet, rowOf, Gives, locatedRows, functionRows, FindsRest, FindsBody};
 use crate::answers::Filled;
 use crate::answers::TableRead;
+use crate::tables::EntryPlace;
 use enums::FunctionFlag;
 use enums::Refusal;
 use enums::VersionClass;
@@ -316,5 +317,42 @@ pub fn parse_func_section(
     match reader.read_varint(payload) {
         NumRead::Stop(x) => TableRead::Stop(x),
         NumRead::Got(count, first) => fill_funcs(payload, first, count, sheet, pool, at),
+    }
+}
+
+// Passes over n functions.
+fn find_body(payload: &[u8], first: Reader, count: u64, n: u64) -> EntryPlace
+    requires { ⌜ first .pos ≤ length (now payload) ⌝ }
+    ensures { λ r. ⌜ FindsRest (now (payload .entry)) count n (first .pos) r ⌝ }
+{
+    let mut reader = first;
+    let mut left = count;
+    let mut ahead = n;
+    while 0 < left {
+        match read_func(payload, reader) {
+            FuncRead::Stop(_) => {
+                return EntryPlace::Absent;
+            }
+            FuncRead::Got(row, next) => {
+                if ahead == 0 {
+                    return EntryPlace::At(row.body, next.pos - row.body);
+                }
+                reader = next;
+                left -= 1;
+                ahead -= 1;
+            }
+        }
+    }
+    EntryPlace::Absent
+}
+
+// Where the body of function n of a section that is accepted stands.
+pub fn body_place(payload: &[u8], n: u64) -> EntryPlace
+    ensures { λ r. ⌜ FindsBody (now (payload .entry)) n r ⌝ }
+{
+    let reader = Reader { pos: 0 };
+    match reader.read_varint(payload) {
+        NumRead::Stop(_) => EntryPlace::Absent,
+        NumRead::Got(count, first) => find_body(payload, first, count, n),
     }
 }
