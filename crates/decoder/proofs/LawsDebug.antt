@@ -10,7 +10,7 @@ use mathlib.Core.Option.{Option, none, some}
 use mathlib.Core.List.{List, [], _∷_, _++_, map}
 use lib.ListN.{length, getD, take, drop, replicate, length-replicate, length-append, length-take, length-drop, drop-of-length-le}
 use lib.Seq.{drop-cons, length-slice, length-take-le, getD-take}
-use Rattle.exact.specs.Got.{Got, got, stop, ended, follow}
+use Rattle.exact.specs.Got.{Got, got, stop, follow}
 use Rattle.exact.specs.Exact.{Parser}
 use Rattle.exact.specs.Basic.{byte, pure}
 use Rattle.exact.specs.Sequence.{bind}
@@ -26,7 +26,7 @@ use Rattle.exact.specs.Entries.{Rows, raised, cutLeast, entry, entriesOf, rows,
 use Rattle.exact.proofs.LawsExact.{stop-not-got, got-value, got-next}
 use Rattle.exact.proofs.LawsChoice.{choose-yes, choose-no}
 use Rattle.exact.proofs.LawsSequence.{follow-inv, bind-got, bind-stop}
-use Rattle.exact.proofs.LawsSteps.{byte-at, byte-end, times-at}
+use Rattle.exact.proofs.LawsSteps.{byte-at, byte-end}
 use Rattle.exact.proofs.LawsTiling.{cut-is}
 use Rattle.enums.specs.Container.{P}
 use Rattle.enums.specs.Refusals as refusals
@@ -41,12 +41,12 @@ use Rattle.format.specs.Sheet.{attributeWords, attributeFields, listWords}
 use Rattle.format.specs.DecodeTables.{paddedAt, shape}
 use Rattle.format.specs.DecodeDebug.{attributeAt, attributesAt, listsAt, debugAt}
 use Rattle.sheet.specs.Store.{putWord, putWords}
-use Rattle.sheet.proofs.LawsStore.{putWords-append, length-putWords}
+use Rattle.sheet.proofs.LawsStore.{putWords-append}
 use Rattle.decoder.specs.declared.answers.Filled.{Filled}
 use Rattle.decoder.specs.declared.fields.Spot.{Spot}
 use Rattle.decoder.specs.declared.fields.SpotRead.{SpotRead}
 use Rattle.decoder.specs.declared.fields.SpotRead.the-variants as spot
-use Rattle.decoder.specs.declared.fields.Number.the-variants.{Varint, I64}
+use Rattle.decoder.specs.declared.fields.Number.the-variants.{Varint}
 use Rattle.decoder.specs.declared.tables.Starts.{Starts}
 use Rattle.decoder.specs.declared.tables.StartsRead.{StartsRead}
 use Rattle.decoder.specs.Tables.{startsIn, gotStarts, Lies, Starting}
@@ -56,7 +56,7 @@ use Rattle.decoder.proofs.LawsFields.{map-got, map-stop, times-length}
 use Rattle.decoder.proofs.LawsTables.{starts-counted}
 use Rattle.decoder.specs.declared.debug.DebugRead.{DebugRead}
 use Rattle.decoder.specs.declared.debug.DebugRead.the-variants as debug
-use Rattle.decoder.specs.DebugRows.{attributeRows, listRows, debugWords, counted, debugCount, debugBehind, DebugFills}
+use Rattle.decoder.specs.DebugRows.{attributeRows, listRows, debugWords, counted, debugBehind, DebugFills}
 
 -- No entry of a table is above the highest: one computed test gives the rule at each.
 abbrev most : List ℕ → ℕ

@@ -27,7 +27,7 @@ use Rattle.enums.specs.declared.VersionClass.the-variants.{Below13_3, From13_3,
 use Rattle.reading.specs.Numbers.{varintAt}
 use Rattle.reading.specs.declared.Refused.{Refused}
 use Rattle.format.specs.Tables.{TypeRow, plain}
-use Rattle.format.specs.Items.{truth, since13·3}
+use Rattle.format.specs.Items.{truth}
 use Rattle.format.specs.Types.{plainTags, among}
 use Rattle.format.specs.Sheet.{fieldWords, typeWords}
 use Rattle.format.specs.DecodeTables.{fieldAt}

@@ -1,21 +1,19 @@
 -- The entries of the Type section, one after the other. Assumes nothing.
 use mathlib.Core.Path.{_≡_, refl, sym, ap, _∙_, subst}
 use mathlib.Core.Logic.{_⊎_, inl, inr}
-use Prim.Native.Nat.{ℕ, zero, suc, _+_, _-_, _*_, _^_, _≤_, _<_}
+use Prim.Native.Nat.{ℕ, zero, suc, _+_, _-_, _*_, _≤_, _<_}
 use native.Mathlib.Nat.{add-zero}
 use native.Mathlib.Numerals.{add-one}
-use native.Mathlib.Decide.{decLe, decLt}
+use native.Mathlib.Decide.{decLe}
 use native.Mathlib.Omega.{arith}
-use mathlib.Core.Option.{Option, none, some}
+use mathlib.Core.Option.{none, some}
 use mathlib.Core.List.{List, [], _∷_, _++_, map}
 use lib.ListN.{length, take, drop, getD, length-drop, length-append, drop-of-length-le}
 use lib.Seq.{drop-drop, drop-cons, length-take-le}
 use Rattle.exact.specs.Got.{Got, got, stop, follow}
-use Rattle.exact.specs.Exact.{Parser}
 use Rattle.exact.specs.Basic.{pure}
 use Rattle.exact.specs.Sequence.{bind}
 use Rattle.exact.specs.Sequence as sequence
-use Rattle.exact.specs.Choice.{choose}
 use Rattle.exact.specs.Fixed.{little, fixed, nums}
 use Rattle.exact.specs.Tiling.{cut, endOf, join}
 use Rattle.exact.specs.Entries.{raised, cutLeast, entry, entriesOf}
@@ -135,7 +133,7 @@ unfolding Inside
 inside-at start end w n t h = h
 
 -- Starts.
-length-nums : (n w : ℕ) (s : List ℕ) → length (nums n w s) ≡ n
+pub length-nums : (n w : ℕ) (s : List ℕ) → length (nums n w s) ≡ n
 unfolding nums
 length-nums zero w s = refl
 length-nums (suc n) w s = ap suc (length-nums n w (drop w s))

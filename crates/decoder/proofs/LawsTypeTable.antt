@@ -4,14 +4,13 @@ use Prim.Native.Nat.{ℕ, zero, suc, _+_, _-_, _*_, _/_, _^_, _≤_, _<_}
 use native.Mathlib.Nat.{add-zero, div-mul-le-self, lt-div-mul-add, mul-le-mul-right}
 use native.Mathlib.Decide.{ℕ-discrete}
 use native.Mathlib.Omega.{arith}
-use mathlib.Core.List.{List, [], _∷_, _++_, map}
+use mathlib.Core.List.{List, [], _∷_, map}
 use lib.ListN.{length, drop, length-append, length-drop}
-use Rattle.exact.specs.Got.{Got, got, stop, ended, follow}
+use Rattle.exact.specs.Got.{Got, got, stop, follow}
 use Rattle.exact.specs.Exact.{Parser}
 use Rattle.exact.specs.Basic.{pure}
 use Rattle.exact.specs.Sequence.{bind}
 use Rattle.exact.specs.Sequence as sequence
-use Rattle.exact.specs.Choice.{choose}
 use Rattle.exact.specs.Repeat.{times}
 use Rattle.exact.specs.Fixed.{fixed, nums}
 use Rattle.exact.specs.Tiling.{join, endOf}
@@ -35,10 +34,10 @@ use Rattle.decoder.specs.declared.answers.Filled.{Filled}
 use Rattle.decoder.specs.declared.answers.TableRead.{TableRead}
 use Rattle.decoder.specs.declared.answers.TableRead.the-variants as table
 use Rattle.decoder.specs.declared.fields.Spot.{Spot}
-use Rattle.decoder.specs.declared.fields.SpotRead.{SpotRead}
 use Rattle.decoder.specs.declared.fields.SpotRead.the-variants as spot
-use Rattle.decoder.specs.Fill.{Count, counted, refused, Rows, Fills, Fits}
+use Rattle.decoder.specs.Fill.{Fills}
 use Rattle.decoder.specs.TypeRows.{placeOf, Row, rowsWords, entriesFrom, typeRows, startsAndEntries}
+use Rattle.decoder.proofs.LawsTypeSection.{length-nums}
 
 -- As many rows as starts.
 entries-length : (c m : ℕ) (p : Parser TypeRow) (ss : List ℕ) (b n : ℕ) (d : List ℕ) (vs : List TypeRow) (k : ℕ) →
@@ -49,11 +48,6 @@ entries-length c m p (s ∷ ss) b n d vs k e =
     let (v, j, x, y) = follow-inv (entry c p (b + s) (cutLeast m s (endOf ss d) d)) _ vs k e in
     let (us, i, z, w) = follow-inv (entriesOf c m p ss b n d) _ vs k y in
     sym (ap length (got-value w)) ∙ ap suc (entries-length c m p ss b n d us i z)
-
-length-nums : (n w : ℕ) (s : List ℕ) → length (nums n w s) ≡ n
-unfolding nums
-length-nums zero w s = refl
-length-nums (suc n) w s = ap suc (length-nums n w (drop w s))
 
 -- The starts are there ..
 module _ (c : VersionClass) (n : ℕ) (l : List ℕ) (i left : ℕ) (rest : left ≡ length l - i) where
@@ -158,9 +152,6 @@ module _ (at : Filled) (s s' : List ℕ) where
     pub fills-got : (t : Spot) → Row (rowsWords (entriesFrom c i n 0 l)) (at .words) s s' (spot.Got t) →
         Fills at (typeRows g) s s' [] [] (table.Got n record { words = t .word; bytes = at .bytes })
     fills-got t h = got-any g n t counts (subst (λ g. Row (rowsWords g) (at .words) s s' (spot.Got t)) (sym same) h)
-
-pub fits-word : (at : Filled) (l : List ℕ) → Fits at l → at .words + 8 * length l ≤ 2 ^ 60
-fits-word at l h = h .words
 
 pub fills-told : (at : Filled) (s s' : List ℕ) (g h : Got (List TypeRow)) (r : TableRead) → h ≡ g → Fills at (typeRows g) s s' [] [] r →
     Fills at (typeRows h) s s' [] [] r

@@ -1,6 +1,6 @@
 -- The words of a type's fields as the words of steps one after the other. Assumes nothing.
 use mathlib.Core.Path.{_≡_, refl, sym, ap, _∙_, subst}
-use Prim.Native.Nat.{ℕ, _+_, _*_, _%_, _^_, _≤_, _<_}
+use Prim.Native.Nat.{ℕ, _+_, _%_, _^_, _≤_, _<_}
 use native.Mathlib.Decide.{ℕ-discrete}
 use native.Mathlib.Omega.{arith}
 use mathlib.Core.Bool.{Bool, true, false, Bool-discrete}
@@ -15,10 +15,9 @@ use Rattle.exact.specs.Sequence.{bind, map}
 use Rattle.exact.specs.Repeat.{counted}
 use Rattle.enums.specs.declared.VersionClass.{VersionClass}
 use Rattle.reading.specs.Numbers.{varintAt, countedAt}
-use Rattle.format.specs.Items.{truth, since13·3, since13·4}
-use Rattle.format.specs.Tables.{TypeRow, pointer, tile, tensorView, partitionView, gatherScatterView, stridedView, function}
+use Rattle.format.specs.Items.{truth, since13·4}
+use Rattle.format.specs.Tables.{TypeRow, partitionView}
 use Rattle.format.specs.Sheet.{fieldWords}
-use Rattle.exact.specs.Choice.{choose}
 use Rattle.exact.proofs.LawsChoice.{choose-yes, choose-no}
 use Rattle.format.specs.DecodeTables.{fieldAt, indicesAt}
 use Rattle.format.specs.DecodeTypes.{
@@ -35,9 +34,8 @@ use Rattle.format.specs.DecodeTypes.{
 }
 use Rattle.enums.specs.Types as tags
 use Rattle.sheet.specs.Store.{putWord, putWords}
-use Rattle.reading.specs.declared.Refused.{Refused}
 use Rattle.decoder.specs.declared.fields.Number.{Number}
-use Rattle.decoder.specs.declared.fields.Number.the-variants.{Varint, Byte, I32, I64}
+use Rattle.decoder.specs.declared.fields.Number.the-variants.{Varint, I32, I64}
 use Rattle.decoder.specs.declared.fields.Spot.{Spot}
 use Rattle.decoder.specs.declared.fields.SpotRead.{SpotRead}
 use Rattle.decoder.specs.declared.fields.SpotRead.the-variants as spot

@@ -1,5 +1,5 @@
--- What the steps that copy an entry's fields answer and leave in the sheet (document 01, "The sheet": a type's fields in
--- wire order with counts before lists; a field absent on the wire is 0).
+-- What the steps that copy an entry's fields answer and leave in the sheet (document 01, "The sheet": a type's fields
+-- in wire order with counts before lists; a field absent on the wire is 0).
 use mathlib.Core.Path.{_≡_}
 use Prim.Native.Nat.{ℕ, _+_, _*_, _^_, _≤_, _<_}
 use mathlib.Core.Bool.{Bool, true, Bool-discrete}
@@ -12,7 +12,6 @@ use Rattle.exact.specs.Sequence.{map}
 use Rattle.exact.specs.Repeat.{times, counted}
 use Rattle.exact.specs.Fixed.{fixed}
 use Rattle.reading.specs.Numbers.{varintAt}
-use Rattle.reading.specs.declared.Refused.{Refused}
 use Rattle.format.specs.DecodeTables.{fieldAt}
 use Rattle.format.specs.Sheet.{countedWords}
 use Rattle.sheet.specs.Store.{putWords}

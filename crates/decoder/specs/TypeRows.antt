@@ -1,5 +1,5 @@
--- What the readers of type entries answer and leave in the sheet (document 01, "The sheet": type, the number of words that
--- follow, tag, fields in wire order with counts before lists).
+-- What the readers of type entries answer and leave in the sheet (document 01, "The sheet": type, the number of words
+-- that follow, tag, fields in wire order with counts before lists).
 use mathlib.Core.Path.{_≡_}
 use Prim.Native.Nat.{ℕ, _+_, _-_, _*_, _^_, _≤_, _<_}
 use mathlib.Core.Bool.{true, Bool-discrete}
@@ -55,8 +55,8 @@ rowWords g = follow g (λ v j. got (typeWords v) j)
 unfoldable pub rowsWords : Got (List TypeRow) → Got (List ℕ)
 rowsWords g = follow g (λ vs j. got (join (map typeWords vs)) j)
 
--- The entry from start to end of the data that begins at b (document 01, "The container": its bounds are judged and after
--- them its fields).
+-- The entry from start to end of the data that begins at b (document 01, "The container": its bounds are judged and
+-- after them its fields).
 unfoldable pub entryIn : VersionClass → ℕ → ℕ → ℕ → List ℕ → Got TypeRow
 entryIn c b start end l = entry refusals.bounds (typeEntryAt c) (b + start) (cutLeast 0 start end (drop b l))
 

@@ -16,8 +16,8 @@ use reading::Reader;
 use reading::Refused;
 use reading::U32Read;
 
-// How far an entry is read and its row is filled: the next byte, the next word, and the number that was copied last, of a
-// list its count.
+// How far an entry is read and its row is filled: the next byte, the next word, and the number that was copied last (of
+// a list its count).
 pub struct Spot {
     pub pos: usize,
     pub word: usize,

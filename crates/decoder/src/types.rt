@@ -330,8 +330,8 @@ fn decode_type_entries(
     })
 }
 
-// The starts and the entries behind the padding. What is left is divided by a start's width, so that a count near 2^64 is
-// refused like any other, at the first start that does not fit.
+// The starts and the entries behind the padding. What is left is divided by a start's width, so that a count near 2^64
+// is refused like any other, at the first start that does not fit.
 fn parse_type_rows(
     payload: &[u8],
     class: VersionClass,

@@ -1,5 +1,4 @@
 -- `copy_byte_if` copies a byte by bit 0 of the flags. Assumes nothing.
-use Rattle.format.specs.DecodeTypes.{byteIf}
 use Rattle.decoder.specs.Fields.{numberAt}
 use Rattle.decoder.proofs.LawsFields.{copied-as}
 use Rattle.decoder.proofs.LawsTypes.{byte-if}

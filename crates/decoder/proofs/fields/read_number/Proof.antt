@@ -1,17 +1,11 @@
 -- `read_number` answers the number that stands there, by how it stands. Assumes nothing.
-use mathlib.Core.Path.{_≡_, sym}
+use mathlib.Core.Path.{sym}
 use Rattle.reading.proofs.LawsShown.{told-byte, told-u32}
 use Rattle.decoder.specs.Fields.{numberAt}
 use Rattle.decoder.proofs.LawsFields.{number-told}
 use borrow.Author.Needs.{needs}
 use Rattle.decoder.proofs.fields.read_number.Statement.{statement}
 use Rattle.decoder.proofs.fields.read_number.Tie as tie
-use Rattle.decoder.proofs.fields.read_number.Reads as reads
-use Rattle.decoder.proofs.fields.read_number.Lts as lts
-use Rattle.reading.proofs.Reader.read_byte.Reads as read-byte-reads
-use Rattle.reading.proofs.Reader.read_le_u32.Reads as read-le-u32-reads
-use Rattle.reading.proofs.Reader.read_le_u64.Reads as read-le-u64-reads
-use Rattle.reading.proofs.Reader.read_varint.Reads as read-varint-reads
 
 enum-told : tie.Need-enum-told
 enum-told c = search needs

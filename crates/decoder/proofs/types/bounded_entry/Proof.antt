@@ -1,5 +1,5 @@
 -- `bounded_entry` judges an entry's bounds, and reads it as a payload of its own. Assumes nothing.
-use mathlib.Core.Path.{_≡_, sym, subst}
+use mathlib.Core.Path.{sym}
 use mathlib.Core.Logic.{inl, inr}
 use native.Mathlib.Omega.{arith}
 use Rattle.decoder.proofs.LawsTypeEntries.{row-told}

@@ -1,4 +1,5 @@
--- `decode_type_entries` reads entry by entry: whatever reading the rest leaves, reading them all leaves it. Assumes nothing.
+-- `decode_type_entries` reads entry by entry: whatever reading the rest leaves, reading them all leaves it.
+-- Assumes nothing.
 use mathlib.Core.Path.{_≡_, refl, _∙_}
 use Prim.Native.Nat.{ℕ, _+_, _-_, _*_, _≤_}
 use native.Mathlib.Omega.{arith}

@@ -2,7 +2,7 @@
 use native.Mathlib.Omega.{arith}
 use Rattle.decoder.specs.declared.fields.Number.the-variants.{Varint}
 use Rattle.decoder.specs.Fields.{listed}
-use Rattle.decoder.proofs.LawsFields.{then, copied-then}
+use Rattle.decoder.proofs.LawsFields.{copied-then}
 use Rattle.decoder.proofs.LawsTypes.{row-of, spare-tag, spare-room, tag-within, grow, within-most, function-says, functionSteps}
 use borrow.Author.Needs.{needs}
 use Rattle.decoder.proofs.types.function.Statement.{statement}

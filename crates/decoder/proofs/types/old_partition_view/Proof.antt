@@ -1,5 +1,4 @@
 -- `old_partition_view` copies the fields below 13.3, and puts tag and presence before them. Assumes nothing.
-use mathlib.Core.Path.{refl}
 use native.Mathlib.Omega.{arith}
 use Rattle.exact.specs.Basic.{byte}
 use Rattle.exact.specs.Sequence.{map}

@@ -1,6 +1,5 @@
 -- `start_at` answers the start of an entry, or the data's end. Assumes nothing.
 use mathlib.Core.Path.{sym, _∙_}
-use native.Mathlib.Omega.{arith}
 use Rattle.exact.proofs.LawsExact.{stop-not-got, got-value}
 use Rattle.reading.proofs.LawsShown.{told-u32}
 use Rattle.decoder.proofs.LawsTypeSection.{start-read, start-end}

@@ -3,7 +3,7 @@ use native.Mathlib.Omega.{arith}
 use Rattle.reading.specs.Numbers.{varintAt}
 use Rattle.decoder.specs.declared.fields.Number.the-variants.{I64}
 use Rattle.decoder.specs.Fields.{one, listed}
-use Rattle.decoder.proofs.LawsFields.{then, copied-then}
+use Rattle.decoder.proofs.LawsFields.{copied-then}
 use Rattle.decoder.proofs.LawsTypes.{row-of, spare-tag, spare-room, tag-within, grow, within-most, tile-says, tileSteps}
 use borrow.Author.Needs.{needs}
 use Rattle.decoder.proofs.types.tile.Statement.{statement}
