@@ -20,6 +20,7 @@ pub mod RowPlaced
 pub mod ExampleFiles
 pub mod ExampleRefusals
 pub mod Examples
+pub mod ExamplesExplained
 pub mod Viewed
 pub mod LawsWalk
 pub mod LawsImageItems
