@@ -22,7 +22,7 @@ use Rattle.decoder.specs.declared.answers.TableRead.the-variants as tabl
 use Rattle.decoder.proofs.LawsFill.{fills-got, fills-stop}
 
 -- Lists side by side are joined side by side.
-join-append : {A : Type 0} (xs ys : List (List A)) → join (xs ++ ys) ≡ join xs ++ join ys
+pub join-append : {A : Type 0} (xs ys : List (List A)) → join (xs ++ ys) ≡ join xs ++ join ys
 join-append [] ys = refl
 join-append (x ∷ xs) ys = ap (λ z. x ++ z) (join-append xs ys) ∙ sym (append-assoc x (join xs) (join ys))
 

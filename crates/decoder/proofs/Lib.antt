@@ -1,10 +1,3 @@
-pub mod LawsMagic
-pub mod LawsPlaces
-pub mod LawsItem
-pub mod LawsWalk
-pub mod LawsShown
-pub mod LawsOpened
-pub mod LawsViews
 pub mod LawsFill
 pub mod LawsTables
 pub mod LawsProducer
@@ -18,3 +11,14 @@ pub mod LawsTypeEntries
 pub mod LawsTypeSection
 pub mod LawsTypeTable
 pub mod LawsDebug
+pub mod LawsFilled
+pub mod LawsSizes
+pub mod LawsPass
+pub mod LawsProducing
+pub mod LawsDebugging
+pub mod LawsPasses
+pub mod LawsHeld
+pub mod LawsPassed
+pub mod LawsSheet
+pub mod LawsFile
+pub mod LawsRowViews

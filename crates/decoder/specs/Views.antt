@@ -1,35 +1,54 @@
--- What a view answers, and what it promises (document 01, "Refusal numbers").
+-- What the view of a string, a constant or a body answers, and what it promises (document 01, "Refusal numbers").
 use mathlib.Core.Path.{_≡_}
 use Prim.Native.Nat.{ℕ, _≤_, _<_}
 use mathlib.Core.List.{List}
 use lib.ListN.{length}
-use Rattle.enums.specs.Container.{numSections}
-use Rattle.format.specs.Tables.{Version}
-use Rattle.format.specs.Sections.{Section}
-use Rattle.format.specs.Explains.{Container}
+use Rattle.exact.specs.Entries.{Rows}
+use Rattle.enums.specs.Container.{stringId, constantId, funcId}
+use Rattle.enums.specs.Refusals as refusals
+use Rattle.format.specs.Explains.{Placed, Layout}
 use Rattle.format.specs.Read.{Read, accepted, refused}
-use Rattle.format.specs.Decode.{mostBytes}
-use Rattle.format.specs.Stands.{PayloadAt}
-use Rattle.format.specs.Views.{Span, sectionView}
-use Rattle.decoder.specs.declared.ViewRead.{ViewRead}
-use Rattle.decoder.specs.declared.ViewRead.the-variants as view
+use Rattle.format.specs.Decode.{mostBytes, placed}
+use Rattle.format.specs.Views.{Span, stringsIn, constantsIn, bodiesIn, spanOf, rowView, Viewed}
+use Rattle.container.specs.declared.ViewRead.{ViewRead}
+use Rattle.container.specs.Views.{viewOf}
+use Rattle.decoder.specs.declared.tables.EntryPlace.{EntryPlace}
+use Rattle.decoder.specs.Tables.{Finds}
+use Rattle.decoder.specs.Rows.{FindsBody}
+use Rattle.decoder.specs.declared.views.RowKind.{RowKind}
+use Rattle.decoder.specs.declared.views.RowKind.the-variants as kind
 
-abbrev pub viewOf : ViewRead → Read Span
-viewOf (view.Got v) = accepted (record { offset = v .start; size = v .len })
-viewOf (view.Stop x) = refused (x .no) (x .stage) (x .at)
+-- The rows of a kind, with their places ..
+abbrev pub rowsOf : RowKind → Placed → Rows (List ℕ)
+rowsOf kind.String = stringsIn
+rowsOf kind.Constant = constantsIn
+rowsOf kind.Body = bodiesIn
 
--- The bytes of this span are the whole payload that counts for this id: the file is a header, sections and an end
--- marker, and the last of these sections with this id has them as its payload.
-pub record SectionAt (file : List ℕ) (id : ℕ) (s : Span) : Type 0 where
-  pub version : Version
-  pub sections : List Section
-  pub container : Container file version sections
-  pub payload : PayloadAt file sections id (s .offset) (s .size)
+-- .. and the id of the section that has them.
+abbrev pub idOf : RowKind → ℕ
+idOf kind.String = stringId
+idOf kind.Constant = constantId
+idOf kind.Body = funcId
 
--- What the view of a section promises.
-pub record SectionPost (file : List ℕ) (id : ℕ) (r : ViewRead) : Type 0 where
-  pub answer : viewOf r ≡ sectionView file id
-  -- A view is exactly the payload asked for ..
-  pub sound : (s : Span) → viewOf r ≡ accepted s → SectionAt file id s
-  -- .. and each payload of a file within the limit is viewed, if its id is one of document 01's.
-  pub complete : (s : Span) → SectionAt file id s → length file ≤ mostBytes → id < numSections → viewOf r ≡ accepted s
+-- Where the payload l is accepted, the answer is the place of row n in it.
+unfoldable pub FindsRow : RowKind → List ℕ → ℕ → EntryPlace → Type 0
+FindsRow kind.String l n r = Finds 4 4 l n r
+FindsRow kind.Constant l n r = Finds 8 8 l n r
+FindsRow kind.Body l n r = FindsBody l n r
+
+-- The whole file is accepted.
+abbrev pub Accepted : List ℕ → Type 0
+Accepted file = (x : Placed) × (placed file ≡ accepted x)
+
+-- The asked row is not there.
+abbrev pub notThere : Read Span
+notThere = refused refusals.notThere refusals.atCall 0
+
+-- What the view of row k promises, of the rows that a layout gives and the section that has them.
+pub record RowPost (rowsIn : Placed → Rows (List ℕ)) (id : ℕ) (file : List ℕ) (k : ℕ) (r : ViewRead) : Type 0 where
+  pub answer : viewOf r ≡ rowView rowsIn file k
+  -- A view is exactly the row asked for, inside the payload that counts for the section ..
+  pub sound : (s : Span) → viewOf r ≡ accepted s → Viewed rowsIn id file k s
+  -- .. and each row of a file within the limit that a layout explains is viewed.
+  pub complete : (x : Placed) → Layout file x → length file ≤ mostBytes → k < length (rowsIn x .values) →
+      viewOf r ≡ accepted (spanOf (rowsIn x) k)

@@ -2,50 +2,79 @@
 mod answers;
 mod debug;
 mod fields;
+mod pass;
 mod rows;
-pub mod sections;
 mod tables;
 mod types;
+mod views;
 
-ghost use Rattle.decoder.specs.Views.{SectionPost};
+ghost use Rattle.enums.specs.Container.{stringId, constantId, funcId};
+ghost use Rattle.format.specs.Views.{stringsIn, constantsIn, bodiesIn};
+ghost use Rattle.decoder.specs.File.{MeasurePost, ReadPost};
+ghost use Rattle.decoder.specs.Views.{RowPost};
+use container::ViewRead;
+use container::sections::Stopped;
 use enums::Refusal;
 use enums::Stage;
-use sections::Judged;
-use sections::Stopped;
+use views::RowKind;
 
-// Bytes of a file: the offset of the first, and how many.
-pub struct View {
-    pub start: usize,
-    pub len: usize,
+// How many words the sheet of a file has, and how many bytes its pool.
+pub struct Need {
+    pub words: usize,
+    pub bytes: usize,
 }
 
-pub enum ViewRead {
-    Got(View),
+pub enum FileRead {
+    Got(Need),
     Stop(Stopped),
 }
 
-// The view of a section: the whole payload that counts for this id.
-pub fn section(file: &[u8], id: u64) -> ViewRead
-    ensures { λ r. ⌜ SectionPost (now (file .entry)) id r ⌝ }
+// How large the stores have to be: a pass over the file that is lent none.
+pub fn measure(file: &[u8]) -> FileRead
+    ensures { λ r. ⌜ MeasurePost (now (file .entry)) r ⌝ }
 {
-    let container = sections::read_container(file);
-    let judged = container.judged;
-    let places = container.places;
-    match judged {
-        Judged::Stop(x) => ViewRead::Stop(x),
-        Judged::Passed => {
-            let place = sections::get(places, id);
-            if !place.presence {
-                return ViewRead::Stop(Stopped {
-                    no: Refusal::ABSENT,
+    let mut sheet: [u8; 0] = [];
+    let mut pool: [u8; 0] = [];
+    pass::fill(file, &mut sheet, &mut pool)
+}
+
+// The tables of a file as a sheet and a pool. The first pass measures, on no store, so that a refused call has written
+// nothing; the second one fills.
+pub fn read(file: &[u8], sheet: &mut [u8], pool: &mut [u8]) -> FileRead
+    ensures { λ r. ⌜ ReadPost (now (file .entry)) (now (sheet .entry)) (now (sheet .exit)) (now (pool .entry)) (now (pool .exit)) r ⌝ }
+{
+    match pass::fill(file, &mut sheet[0..0], &mut pool[0..0]) {
+        FileRead::Stop(x) => FileRead::Stop(x),
+        FileRead::Got(need) => {
+            if sheet.len() / 8 < need.words || pool.len() < need.bytes {
+                return FileRead::Stop(Stopped {
+                    no: Refusal::FULL,
                     stage: Stage::CALL,
                     at: 0,
                 });
             }
-            ViewRead::Got(View {
-                start: place.start,
-                len: place.len,
-            })
+            pass::fill(file, sheet, pool)
         }
     }
+}
+
+// The view of a string: its bytes in the file.
+pub fn string(file: &[u8], index: u64) -> ViewRead
+    ensures { λ r. ⌜ RowPost stringsIn stringId (now (file .entry)) index r ⌝ }
+{
+    views::row(file, RowKind::String, index)
+}
+
+// The view of a constant.
+pub fn constant(file: &[u8], index: u64) -> ViewRead
+    ensures { λ r. ⌜ RowPost constantsIn constantId (now (file .entry)) index r ⌝ }
+{
+    views::row(file, RowKind::Constant, index)
+}
+
+// The view of a function's body.
+pub fn body(file: &[u8], index: u64) -> ViewRead
+    ensures { λ r. ⌜ RowPost bodiesIn funcId (now (file .entry)) index r ⌝ }
+{
+    views::row(file, RowKind::Body, index)
 }

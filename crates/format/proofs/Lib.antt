@@ -41,3 +41,4 @@ pub mod LawsImageLength
 pub mod LawsStarts
 pub mod Writes
 pub mod FullCase
+pub mod LawsBelow

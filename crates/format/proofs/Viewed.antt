@@ -3,8 +3,8 @@ use mathlib.Core.Path.{_≡_, refl, subst}
 use Prim.Native.Nat.{ℕ, _≤_, _<_}
 use native.Mathlib.Decide.{decLe, decLt}
 use mathlib.Core.Option.{Option}
-use mathlib.Core.List.{List, []}
-use lib.ListN.{length, getD}
+use mathlib.Core.List.{List}
+use lib.ListN.{length}
 use Rattle.exact.specs.Choice.{choose}
 use Rattle.exact.specs.Entries.{Rows}
 use Rattle.exact.proofs.LawsChoice.{choose-yes}
@@ -16,28 +16,16 @@ use Rattle.format.specs.Explains.{Placed, Container, Layout}
 use Rattle.format.specs.Read.{Read, accepted, refused, atStage}
 use Rattle.format.specs.DecodeContainer.{headerAt, sectionsAt, lastWith}
 use Rattle.format.specs.Decode.{mostBytes, placed}
-use Rattle.format.specs.Stands.{RowAt, RowsAt, PayloadAt}
-use Rattle.format.specs.Views.{Span, andThen, stringsIn, constantsIn, bodiesIn, rowSpan, rowView, stringView, constantView, bodyView, payloadSpan, readSections, sectionView}
+use Rattle.format.specs.Stands.{RowsAt, PayloadAt}
+use Rattle.format.specs.Views.{Span, andThen, stringsIn, constantsIn, bodiesIn, spanOf, rowSpan, rowView, stringView, constantView, bodyView, Viewed, payloadSpan, readSections, sectionView}
 use Rattle.format.proofs.Decoded.{accepted-value, refused-not-accepted, stage-inv, container-of, placed-sound, placed-complete}
 use Rattle.format.proofs.RowPlaced.{section-placed, row-placed}
 use Rattle.format.proofs.LawsLast.{Counts, none-counts, last-counts, last-with}
-
--- The span is that of row k of a table of the file's layout, inside the payload that counts for its section.
-pub record Viewed (rowsIn : Placed → Rows (List ℕ)) (id : ℕ) (file : List ℕ) (k : ℕ) (s : Span) : Type 0 where
-  pub found : Placed
-  pub layout : Layout file found
-  pub inside : k < length (rowsIn found .values)
-  pub size : s .size ≡ length (getD (rowsIn found .values) k [])
-  pub row : RowAt file (layout .sections) id (s .offset) (getD (rowsIn found .values) k [])
 
 then-inv : {A B : Type 0} (r : Read A) (f : A → Read B) (w : B) → andThen r f ≡ accepted w → (v : A) × (r ≡ accepted v) × (f v ≡ accepted w)
 unfolding andThen
 then-inv (accepted v) f w e = (v, refl, e)
 then-inv (refused c n i) f w e = absurd (refused-not-accepted e)
-
--- A span of row k.
-abbrev spanOf : Rows (List ℕ) → ℕ → Span
-spanOf r k = record { offset = getD (r .at) k 0; size = length (getD (r .values) k []) }
 
 span-inv : (r : Rows (List ℕ)) (k : ℕ) (s : Span) → rowSpan r k ≡ accepted s → (k < length (r .values)) × (spanOf r k ≡ s)
 unfolding rowSpan choose
@@ -58,7 +46,7 @@ module _ (rowsIn : Placed → Rows (List ℕ)) (id : ℕ)
       let (h, r) = span-inv (rowsIn x) k s q in
       let l : Layout file x = placed-sound file x p .1 in
       let v : Viewed rowsIn id file k (spanOf (rowsIn x) k) =
-      record { found = x; layout = l; inside = h; size = refl; row = placed-so file x l k h } in
+      record { found = x; layout = l; inside = h; span = refl; row = placed-so file x l k h } in
       subst (Viewed rowsIn id file k) r v
 
 -- Strings, constants and bodies.

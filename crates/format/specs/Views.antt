@@ -1,6 +1,7 @@
 -- What the views answer (document 01, "Refusal numbers"): a view of a string, constant or body first judges the whole
 -- file, a section view only the header and walk; an asked index or section that is not there is 14.
-use Prim.Native.Nat.{ℕ}
+use mathlib.Core.Path.{_≡_}
+use Prim.Native.Nat.{ℕ, _<_}
 use native.Mathlib.Decide.{decLe, decLt}
 use mathlib.Core.Option.{Option, none, some}
 use mathlib.Core.List.{List, [], map}
@@ -11,10 +12,11 @@ use Rattle.enums.specs.Container.{numSections}
 use Rattle.enums.specs.Refusals as refusals
 use Rattle.format.specs.Tables.{Function}
 use Rattle.format.specs.Sections.{Section}
-use Rattle.format.specs.Explains.{Placed}
+use Rattle.format.specs.Explains.{Placed, Layout}
 use Rattle.format.specs.Read.{Read, accepted, refused, atStage}
 use Rattle.format.specs.DecodeContainer.{headerAt, sectionsAt, lastWith}
 use Rattle.format.specs.Decode.{mostBytes, placed}
+use Rattle.format.specs.Stands.{RowAt}
 
 -- Where a run of bytes begins in the file, and how many they are.
 pub record Span : Type 0 where
@@ -39,12 +41,14 @@ bodyOf f = f .body
 abbrev pub bodiesIn : Placed → Rows (List ℕ)
 bodiesIn x = record { at = x .places .bodies; values = map bodyOf (x .tables .functions) }
 
--- Row k, if it is there.
+-- The place of row k ..
+abbrev pub spanOf : Rows (List ℕ) → ℕ → Span
+spanOf r k = record { offset = getD (r .at) k 0; size = length (getD (r .values) k []) }
+
+-- .. if it is there.
 unfoldable pub rowSpan : Rows (List ℕ) → ℕ → Read Span
 rowSpan r k =
-    choose (decLt k (length (r .values)))
-    (accepted (record { offset = getD (r .at) k 0; size = length (getD (r .values) k []) }))
-    (refused refusals.notThere refusals.atCall 0)
+    choose (decLt k (length (r .values))) (accepted (spanOf r k)) (refused refusals.notThere refusals.atCall 0)
 
 -- The view of row k of a table.
 unfoldable pub rowView : (Placed → Rows (List ℕ)) → List ℕ → ℕ → Read Span
@@ -58,6 +62,15 @@ constantView = rowView constantsIn
 
 abbrev pub bodyView : List ℕ → ℕ → Read Span
 bodyView = rowView bodiesIn
+
+-- This is the place of row k of a table of the file's layout, and the file's bytes there are the row's, inside the
+-- payload that counts for the section with this id.
+pub record Viewed (rowsIn : Placed → Rows (List ℕ)) (id : ℕ) (file : List ℕ) (k : ℕ) (s : Span) : Type 0 where
+  pub found : Placed
+  pub layout : Layout file found
+  pub inside : k < length (rowsIn found .values)
+  pub span : s ≡ spanOf (rowsIn found) k
+  pub row : RowAt file (layout .sections) id (s .offset) (getD (rowsIn found .values) k [])
 
 -- The whole payload of a section, if it is there.
 unfoldable pub payloadSpan : Option Section → Read Span

@@ -1,9 +1,9 @@
--- A view answers what crate decoder answered; and any two answers that its contract allows are equal. Assumes nothing.
+-- A view answers what the crate below answered; and any two answers that its contract allows are equal. Assumes nothing.
 use mathlib.Core.Path.{_≡_, sym, _∙_}
 use Prim.Native.Nat.{ℕ}
 use mathlib.Core.List.{List}
-use Rattle.decoder.specs.Views.{SectionPost, viewOf}
-use Rattle.decoder.specs.declared.ViewRead.{ViewRead}
+use Rattle.container.specs.Views.{SectionPost, viewOf}
+use Rattle.container.specs.declared.ViewRead.{ViewRead}
 use Rattle.tikomuci.specs.declared.Answer.{Answer}
 use Rattle.tikomuci.specs.Views.{view, SectionViewed}
 use Rattle.tikomuci.proofs.LawsBoundary.{told}

@@ -7,7 +7,7 @@ use Rattle.enums.specs.Container.{numSections}
 use Rattle.format.specs.Read.{Read, accepted, refused}
 use Rattle.format.specs.Decode.{mostBytes}
 use Rattle.format.specs.Views.{Span, sectionView}
-use Rattle.decoder.specs.Views.{SectionAt}
+use Rattle.container.specs.Views.{SectionAt}
 use Rattle.tikomuci.specs.declared.Answer.{Answer}
 use Rattle.tikomuci.specs.Boundary as boundary
 

@@ -1,6 +1,6 @@
 // The exported calls: thin, over plain numbers and byte slices. Each contract is that of the crate below it, seen through
 // the answer struct; a refused call changes no lent memory.
-use decoder::ViewRead;
+use container::ViewRead;
 use encoding::EncodingWriter;
 use encoding::FloatType;
 use encoding::Patched;
@@ -34,7 +34,7 @@ ghost use Rattle.encoding.specs.Signed.{zigzag, pattern};
 ghost use Rattle.encoding.specs.Varint.{spelling};
 ghost use Rattle.reading.specs.Numbers.{varintAt, signedVarintAt, signedAt, paddingAt, itemsAt, remainingAt, placed};
 ghost use Rattle.reading.specs.Shown.{gotByte, gotU16, gotU32, gotNum, gotI32, gotI64, gotBytes, gotPadding, gotItems};
-ghost use Rattle.decoder.specs.Views.{viewOf};
+ghost use Rattle.container.specs.Views.{viewOf};
 ghost use Rattle.tikomuci.specs.Boundary.{accepted, refusedAs, Puts, Writes, WritesFloat, Patches, nextPlace, nextAligned, number, signedNumber, reached, run, runOf, items, itemsOf, skipped};
 ghost use Rattle.tikomuci.specs.Views.{view, SectionViewed};
 
@@ -613,5 +613,5 @@ fn viewed(v: ViewRead) -> Answer
 pub extern "C" fn tikomuci_section(file: &[u8], id: u64) -> Answer
     ensures { λ r. ⌜ SectionViewed (now (file .entry)) id r ⌝ }
 {
-    viewed(decoder::section(file, id))
+    viewed(container::section(file, id))
 }

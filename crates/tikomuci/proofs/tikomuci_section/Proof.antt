@@ -1,4 +1,4 @@
--- `tikomuci_section` answers what crate decoder answered. Assumes nothing.
+-- `tikomuci_section` answers what the crate below answered. Assumes nothing.
 use borrow.Author.Needs.{needs}
 use Rattle.tikomuci.proofs.LawsViews.{section-viewed}
 use Rattle.tikomuci.proofs.tikomuci_section.Statement.{statement}

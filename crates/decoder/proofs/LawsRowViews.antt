@@ -1,0 +1,290 @@
+-- The views of strings, constants and bodies: how the code follows their model, that it keeps their promise, that the
+-- promise allows one answer only, and that bytes after the end marker do not matter. Assumes nothing.
+use mathlib.Core.Path.{_≡_, refl, sym, ap, subst, _∙_}
+use Prim.Native.Nat.{ℕ, _+_, _-_, _≤_, _<_}
+use native.Mathlib.Omega.{arith}
+use native.Mathlib.Decide.{decLt}
+use mathlib.Core.Bool.{true, false, true≢false}
+use mathlib.Core.Option.{Option, none, some}
+use mathlib.Core.List.{List, []}
+use lib.ListN.{length, take, drop, getD}
+use Rattle.exact.specs.Got.{got}
+use Rattle.exact.specs.Exact.{Parser}
+use Rattle.exact.specs.Choice.{choose}
+use Rattle.exact.specs.Entries.{Rows}
+use Rattle.exact.proofs.LawsExact.{got-value}
+use Rattle.exact.proofs.LawsChoice.{choose-no}
+use Rattle.exact.proofs.LawsEntries.{raised-inv}
+use Rattle.enums.specs.Container.{stringId, constantId, funcId, numSections}
+use Rattle.format.specs.Tables.{Version}
+use Rattle.format.specs.Sections.{Section, Last}
+use Rattle.format.specs.Strings.{noRows}
+use Rattle.format.specs.Explains.{Placed, Container, Layout}
+use Rattle.format.specs.Read.{Read, accepted, refused, mapRead}
+use Rattle.format.specs.DecodeContainer.{lastWith, placeOf as placedAt, inSection}
+use Rattle.format.specs.DecodeTables.{stringsAt, constantsAt}
+use Rattle.format.specs.DecodeRows.{functionsAt}
+use Rattle.format.specs.Decode.{mostBytes, placed, onlyTables, decode}
+use Rattle.format.specs.Stands.{Stands}
+use Rattle.format.specs.Views.{Span, andThen, spanOf, rowSpan, rowView, Viewed}
+use Rattle.format.proofs.LawsTables.{strings-ends, constants-ends}
+use Rattle.format.proofs.LawsRows.{functions-ends}
+use Rattle.format.proofs.LawsLast.{Counts, none-counts, last-counts, last-with, section-complete}
+use Rattle.format.proofs.LawsStands.{stands-bytes}
+use Rattle.format.proofs.Decoded.{refused-not-accepted, placed-sound}
+use Rattle.format.proofs.RowPlaced.{section-placed}
+use Rattle.format.proofs.Viewed.{string-viewed, constant-viewed, body-viewed, view-complete}
+use Rattle.format.proofs.AfterEnd.{withAfter, after-answer}
+use Rattle.container.specs.declared.ViewRead.{ViewRead}
+use Rattle.container.specs.declared.sections.SectionPlace.{SectionPlace}
+use Rattle.container.specs.Container.{heldPlace, nowhere, opened, heldContainer}
+use Rattle.container.specs.Views.{viewOf}
+use Rattle.container.proofs.LawsPlaces.{held-at, placeIn}
+use Rattle.container.proofs.LawsOpened.{container-opened}
+use Rattle.container.proofs.LawsViews.{view-only}
+use Rattle.decoder.specs.declared.tables.EntryPlace.{EntryPlace}
+use Rattle.decoder.specs.declared.tables.EntryPlace.the-variants as entry
+use Rattle.decoder.specs.Rows.{bodiesOf}
+use Rattle.decoder.specs.Tables as table
+use Rattle.decoder.specs.declared.Need.{Need}
+use Rattle.decoder.specs.declared.views.RowKind.{RowKind}
+use Rattle.decoder.specs.declared.views.RowKind.the-variants as kind
+use Rattle.decoder.specs.File.{needOf}
+use Rattle.decoder.specs.Views.{rowsOf, idOf, FindsRow, Accepted, notThere, RowPost}
+
+none-not-some : {A : Type 0} {x : A} → none ≡ some x → ⊥
+none-not-some e = let z : _≡_ {A = ℕ} 0 1 = cc in omega arith
+
+some-value : {A : Type 0} {x y : A} → some x ≡ some y → x ≡ y
+some-value e = cc
+
+-- The rows of a kind that the section o gives, if it is there: they are those that are found in its payload.
+record RowsIn (k : RowKind) (o : Option Section) (v : Rows (List ℕ)) : Type 0 where
+  absent : o ≡ none → length (v .values) ≡ 0
+  present : (s : Section) → o ≡ some s → (n : ℕ) (r : EntryPlace) → FindsRow k (s .payload) n r →
+      table.placeOf (s .start) r ≡ table.entryIn v n
+
+-- They are rows that f makes of what p reads of the section.
+module _ {A : Type 0} (f : A → Rows (List ℕ)) (p : ℕ → Parser A) (e v : A) (k : RowKind) (none-of : length (f e .values) ≡ 0)
+    (finds : (l : List ℕ) (n : ℕ) (r : EntryPlace) → FindsRow k l n r → (o : ℕ) (u : A) (j : ℕ) → p o l 0 ≡ got u j →
+    table.placeOf o r ≡ table.entryIn (f u) n) where
+  rows-in : (o : Option Section) → (j : ℕ) × (inSection o p e ≡ got v j) → RowsIn k o (f v)
+  unfolding inSection
+  rows-in none (j, h) =
+      record {
+        absent = λ q. ap (λ u. length (f u .values)) (sym (got-value h)) ∙ none-of;
+        present = λ s q n r g. absurd (none-not-some q);
+      }
+  rows-in (some t) (j, h) =
+      record {
+        absent = λ q. absurd (none-not-some (sym q));
+        present = λ s q n r g. let (i, w) = raised-inv (t .start) (p (t .start) (t .payload) 0) v j h in
+            let m = subst (λ u. p (u .start) (u .payload) 0 ≡ got v i) (some-value q) w in
+            finds (s .payload) n r g (s .start) v i m;
+      }
+
+-- So are the rows of a layout.
+rows-of : (file : List ℕ) (x : Placed) (l : Layout file x) (k : RowKind) →
+    RowsIn k (lastWith (idOf k) (l .sections)) (rowsOf k x)
+unfolding FindsRow stringsAt constantsAt
+rows-of file x l kind.String =
+    rows-in (λ v. v) stringsAt noRows _ kind.String refl (λ b n r g. g .found) _
+    (section-complete stringId (l .sections) strings-ends noRows _ (l .strings))
+rows-of file x l kind.Constant =
+    rows-in (λ v. v) constantsAt noRows _ kind.Constant refl (λ b n r g. g .found) _
+    (section-complete constantId (l .sections) constants-ends noRows _ (l .constants))
+rows-of file x l kind.Body =
+    rows-in bodiesOf functionsAt noRows _ kind.Body refl (λ b n r g. g .found) _
+    (section-complete funcId (l .sections) functions-ends noRows _ (l .functions))
+
+-- The place of a payload that is present is that of the section that counts ..
+held-some : (o : Option Section) (p : SectionPlace) → p ≡ heldPlace (placedAt o) → p .presence ≡ true →
+    (s : Section) × (o ≡ some s) × (p ≡ placeIn s)
+unfolding placedAt
+held-some none p e t = absurd (true≢false (sym t ∙ ap (λ z. z .presence) e))
+held-some (some s) p e t = (s, refl, e)
+
+-- .. and for another one no section counts.
+held-none : (o : Option Section) (p : SectionPlace) → p ≡ heldPlace (placedAt o) → p .presence ≡ false → o ≡ none
+unfolding placedAt
+held-none none p e t = refl
+held-none (some s) p e t = absurd (true≢false (sym (ap (λ z. z .presence) e) ∙ t))
+
+-- The section that the reader finds counts.
+counted : (id : ℕ) (ss : List Section) (o : Option Section) (s : Section) → Counts id ss o → o ≡ some s → Last id ss s
+counted id ss o s (none-counts m) e = absurd (none-not-some e)
+counted id ss o s (last-counts {s = t} r) e = subst (Last id ss) (some-value e) r
+
+-- A place as the answer of a view.
+abbrev spanIn : table.Place → Read Span
+spanIn (table.at start size) = accepted (record { offset = start; size = size })
+spanIn table.nowhere = notThere
+
+-- That of an entry is the model's ..
+span-in : (v : Rows (List ℕ)) (n : ℕ) → spanIn (table.entryIn v n) ≡ rowSpan v n
+unfolding table.entryIn rowSpan choose
+span-in v n = go (decLt n (length (v .values)))
+  where
+    go : (d : Dec (n < length (v .values))) →
+        spanIn (choose d (table.at (getD (v .at) n 0) (length (getD (v .values) n []))) table.nowhere) ≡
+        choose d (accepted (spanOf v n)) notThere
+    go (yes h) = refl
+    go (no h) = refl
+
+-- .. and where there are no rows none is there.
+span-none : (v : Rows (List ℕ)) (n : ℕ) → length (v .values) ≡ 0 → rowSpan v n ≡ notThere
+unfolding rowSpan
+span-none v n e = choose-no (decLt n (length (v .values))) (accepted (spanOf v n)) notThere (omega arith)
+
+-- A view of a string, a constant or a body is exactly the row asked for.
+row-viewed : (k : RowKind) (file : List ℕ) (n : ℕ) (s : Span) → rowView (rowsOf k) file n ≡ accepted s →
+    Viewed (rowsOf k) (idOf k) file n s
+row-viewed kind.String = string-viewed
+row-viewed kind.Constant = constant-viewed
+row-viewed kind.Body = body-viewed
+
+-- The payload at a place, as the code cuts it out of the file.
+abbrev payloadOf : List ℕ → SectionPlace → List ℕ
+payloadOf file p = take (p .start + p .len - p .start) (drop (p .start) file)
+
+-- It is that of the section whose place this is.
+payload-of : (file : List ℕ) (p : SectionPlace) (s : Section) → p ≡ placeIn s →
+    Stands 0 file (s .start) (s .payload) → payloadOf file p ≡ s .payload
+payload-of file p s e h =
+    let n : s .start + length (s .payload) - s .start ≡ length (s .payload) = omega arith in
+    rw (e, n) (stands-bytes file _ _ h .0)
+
+-- Each kind's section has a place.
+id-below : (k : RowKind) → idOf k < numSections
+id-below kind.String = omega arith
+id-below kind.Constant = omega arith
+id-below kind.Body = omega arith
+
+-- The place p of the section that has rows of this kind, in a file that is accepted.
+pub record Asked (file : List ℕ) (k : RowKind) (p : SectionPlace) : Type 0 where
+  pub found : Placed
+  pub judged : placed file ≡ accepted found
+  pub layout : Layout file found
+  pub held : p ≡ heldPlace (placedAt (lastWith (idOf k) (layout .sections)))
+
+-- So the code finds it.
+pub asked : (file : List ℕ) (k : RowKind) (p : SectionPlace) → Accepted file →
+    p ≡ getD (heldContainer (opened file) .places) (idOf k) nowhere → Asked file k p
+asked file k p (x, e) q =
+    let (n, l) = placed-sound file x e in
+    let o = container-opened file _ _ (l .container) n in
+    record {
+      found = x;
+      judged = e;
+      layout = l;
+      held = q ∙ ap (λ z. getD (heldContainer z .places) (idOf k) nowhere) o ∙ held-at (l .sections) (idOf k) (id-below k);
+    }
+
+-- The section that counts, where one does.
+record There {file : List ℕ} {k : RowKind} {p : SectionPlace} (a : Asked file k p) : Type 0 where
+  section : Section
+  counts : lastWith (idOf k) (a .layout .sections) ≡ some section
+  place : p ≡ placeIn section
+  stands : Stands 0 file (section .start) (section .payload)
+
+module _ {file : List ℕ} {k : RowKind} {p : SectionPlace} (a : Asked file k p) where
+  there : p .presence ≡ true → There a
+  there t =
+      let ss = a .layout .sections in
+      let (s, q, e) = held-some (lastWith (idOf k) ss) p (a .held) t in
+      let r = counted (idOf k) ss _ s (last-with (idOf k) ss) q in
+      record {
+        section = s;
+        counts = q;
+        place = e;
+        stands = section-placed file _ ss (a .layout .container) (idOf k) s r;
+      }
+
+  -- A payload that is present lies in the file.
+  pub payload-inside : p .presence ≡ true → p .start + p .len ≤ length file
+  payload-inside t =
+      let w = there t in
+      rw (w .place) (stands-bytes file _ _ (w .stands) .1)
+
+  -- The file is judged: what is left is the row.
+  answered : (n : ℕ) → rowView (rowsOf k) file n ≡ rowSpan (rowsOf k (a .found)) n
+  unfolding rowView andThen
+  answered n = rw (a .judged)
+
+  -- Without a payload no row is viewed.
+  pub view-missing : (n : ℕ) → p .presence ≡ false → rowView (rowsOf k) file n ≡ notThere
+  view-missing n t =
+      let none-there = rows-of file (a .found) (a .layout) k .absent (held-none _ p (a .held) t) in
+      answered n ∙ span-none (rowsOf k (a .found)) n none-there
+
+  module _ (t : p .presence ≡ true) (n : ℕ) (r : EntryPlace) (f : FindsRow k (payloadOf file p) n r) where
+    -- Else the answer is the row that is found in it ..
+    found-in : spanIn (table.placeOf (p .start) r) ≡ rowView (rowsOf k) file n
+    found-in =
+        let w = there t in
+        let s = w .section in
+        let q : payloadOf file p ≡ s .payload = payload-of file p s (w .place) (w .stands) in
+        let m : FindsRow k (s .payload) n r = subst (λ l. FindsRow k l n r) q f in
+        let e : p .start ≡ s .start = ap (λ z. z .start) (w .place) in
+        ap (λ o. spanIn (table.placeOf o r)) e ∙
+        ap spanIn (rows-of file (a .found) (a .layout) k .present s (w .counts) n r m) ∙
+        span-in (rowsOf k (a .found)) n ∙ sym (answered n)
+
+    -- .. which may not be there ..
+    pub view-absent : r ≡ entry.Absent → rowView (rowsOf k) file n ≡ notThere
+    view-absent e = sym found-in ∙ ap (λ q. spanIn (table.placeOf (p .start) q)) e
+
+    module _ (start size : ℕ) (e : r ≡ entry.At start size) where
+      -- .. or has a place.
+      pub view-found : accepted (record { offset = p .start + start; size = size }) ≡ rowView (rowsOf k) file n
+      view-found = sym (ap (λ q. spanIn (table.placeOf (p .start) q)) e) ∙ found-in
+
+      -- It begins in the file.
+      pub row-inside : p .start + start ≤ length file
+      row-inside =
+          let v = row-viewed k file n _ (sym view-found) in
+          omega (arith, stands-bytes file _ _ (v .row .stands) .1)
+
+-- A refused file has no row to view ..
+pub view-refused : (rowsIn : Placed → Rows (List ℕ)) (file : List ℕ) (n c m i : ℕ) →
+    refused c m i ≡ mapRead needOf (decode file) → refused c m i ≡ rowView rowsIn file n
+unfolding rowView andThen decode mapRead
+view-refused rowsIn file n c m i = go (placed file)
+  where
+    go : (g : Read Placed) → refused c m i ≡ mapRead needOf (mapRead onlyTables g) →
+        refused c m i ≡ andThen g (λ x. rowSpan (rowsIn x) n)
+    go (accepted x) e = absurd (refused-not-accepted e)
+    go (refused d j h) e = cc
+
+-- .. and one that is measured is accepted.
+pub measured : (file : List ℕ) (w : Need) → accepted w ≡ mapRead needOf (decode file) → Accepted file
+unfolding decode mapRead
+measured file w = go (placed file)
+  where
+    go : (g : Read Placed) → accepted w ≡ mapRead needOf (mapRead onlyTables g) → (x : Placed) × (g ≡ accepted x)
+    go (accepted x) e = (x, refl)
+    go (refused c m i) e = absurd (refused-not-accepted (sym e))
+
+-- All of the promise.
+pub row-post : (k : RowKind) (file : List ℕ) (n : ℕ) (r : ViewRead) → viewOf r ≡ rowView (rowsOf k) file n →
+    RowPost (rowsOf k) (idOf k) file n r
+row-post k file n r e =
+    record {
+      answer = e;
+      sound = λ s a. row-viewed k file n s (sym e ∙ a);
+      complete = λ x l m h. e ∙ view-complete (rowsOf k) file x l m n h;
+    }
+
+module _ (rowsIn : Placed → Rows (List ℕ)) where
+  -- The contract of a view allows one answer.
+  pub row-only : (id : ℕ) (file : List ℕ) (n : ℕ) (r q : ViewRead) → RowPost rowsIn id file n r →
+      RowPost rowsIn id file n q → r ≡ q
+  row-only id file n r q x y = view-only (x .answer) (y .answer)
+
+  -- Other bytes after the end marker, within the limit, change no view of a row.
+  pub row-after : (file : List ℕ) (v : Version) (ss : List Section) (c : Container file v ss) (other : List ℕ) (n : ℕ) →
+      length file ≤ mostBytes → length (withAfter c other) ≤ mostBytes →
+      rowView rowsIn (withAfter c other) n ≡ rowView rowsIn file n
+  unfolding rowView
+  row-after file v ss c other n h m =
+      ap (λ r. andThen r (λ x. rowSpan (rowsIn x) n)) (after-answer file v ss c other h m)

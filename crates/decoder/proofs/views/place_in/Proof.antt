@@ -1,0 +1,51 @@
+-- `place_in` asks the finder of its kind of rows. Assumes nothing.
+use mathlib.Core.Path.{refl}
+use mathlib.Core.Logic.{inl, inr}
+use borrow.Author.Needs.{needs}
+use Rattle.decoder.specs.Views.{FindsRow}
+use Rattle.decoder.proofs.views.place_in.Statement.{statement}
+use Rattle.decoder.proofs.views.place_in.Tie as tie
+
+enum-told : tie.Need-enum-told
+enum-told c = search needs
+
+entry-place-requires : tie.Need-entry-place-requires
+entry-place-requires c κs = inl refl
+
+enum-told-2 : tie.Need-enum-told-2
+enum-told-2 c = search needs
+
+entry-place-requires-2 : tie.Need-entry-place-requires-2
+entry-place-requires-2 c κs = inr refl
+
+enum-told-3 : tie.Need-enum-told-3
+enum-told-3 c = search needs
+
+body-place-requires : tie.Need-body-place-requires
+body-place-requires c κs = search needs
+
+returns : tie.Need-returns
+unfolding FindsRow
+returns c = rw (c .before .enum-told .given .1) (c .entry-place .ensures)
+
+returns-2 : tie.Need-returns-2
+unfolding FindsRow
+returns-2 c = rw (c .before .enum-told2 .given .1) (c .entry-place2 .ensures)
+
+returns-3 : tie.Need-returns-3
+unfolding FindsRow
+returns-3 c = rw (c .before .enum-told3 .given .1) (c .body-place .ensures)
+
+pub place-in-spec : {M : Type 1} → statement M
+place-in-spec =
+    tie.close
+    (tie.spec
+    enum-told
+    entry-place-requires
+    enum-told-2
+    entry-place-requires-2
+    enum-told-3
+    body-place-requires
+    returns
+    returns-2
+    returns-3)
