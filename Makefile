@@ -1,11 +1,12 @@
 # make demo: prove, build the library, and see it used from C++.
 # make test: what the gate runs: everything is proved from nothing, and the tests of the hosts.
 # make bench: our calls beside encoding.rs and decoder.rs.
+# make answers: writes the list of decoder.rs's answers that the reader tests replay.
 
 SHELL := bash
 .SHELLFLAGS := -euo pipefail -c
 .DELETE_ON_ERROR:
-.PHONY: help demo test bench verdict library cpp-tests reader-tests comparison lint clean
+.PHONY: help demo test bench answers verdict library cpp-tests reader-tests comparison lint clean
 
 include tools/machine.mk
 
@@ -15,6 +16,7 @@ HAS_RUST := $(wildcard $(RUST_SOURCE)/src/bytecode/encoding.rs)
 export TIKOMUCI_RUST_SOURCE := $(abspath $(RUST_SOURCE))
 
 LIBRARY := target/staticlib/libtikomuci.a
+ANSWERS := hosts/rust/boundary/tests/data/answers.txt
 WARNINGS := -Wall -Wextra -Werror -pedantic -Wshadow -Wconversion
 CFLAGS := -std=c99 -O2 $(WARNINGS) -Iinclude
 CXXFLAGS := -std=c++20 -O2 $(WARNINGS) -Iinclude
@@ -50,7 +52,8 @@ cpp-tests: build/tests
 	$(RUN) build/tests
 
 reader-tests:
-	$(CARGO) test $(IN_RUST) --package boundary --test readers --test views
+	$(CARGO) test $(IN_RUST) --package boundary --test readers --test views --test files
+	$(CARGO) test $(IN_RUST) --package plain --lib
 
 comparison:
 ifneq ($(HAS_RUST),)
@@ -66,6 +69,13 @@ ifneq ($(HAS_RUST),)
 	$(CARGO) run $(IN_RUST) --release --package bench
 else
 	@echo "no Rust source at $(RUST_SOURCE): there is nothing to measure against" >&2; exit 1
+endif
+
+answers: library
+ifneq ($(HAS_RUST),)
+	$(CARGO) run $(IN_RUST) --release --package differential -- --write-answers $(ANSWERS)
+else
+	@echo "no Rust source at $(RUST_SOURCE): there is nobody to ask" >&2; exit 1
 endif
 
 lint:

@@ -1,2 +1,3 @@
 pub mod LawsBoundary
 pub mod LawsViews
+pub mod LawsFiles

@@ -3,10 +3,12 @@ use mathlib.Core.Path.{_≡_}
 use Prim.Native.Nat.{ℕ, _≤_, _<_}
 use mathlib.Core.List.{List}
 use lib.ListN.{length}
+use Rattle.exact.specs.Entries.{Rows}
 use Rattle.enums.specs.Container.{numSections}
 use Rattle.format.specs.Read.{Read, accepted, refused}
 use Rattle.format.specs.Decode.{mostBytes}
-use Rattle.format.specs.Views.{Span, sectionView}
+use Rattle.format.specs.Explains.{Placed, Layout}
+use Rattle.format.specs.Views.{Span, sectionView, spanOf, rowView, Viewed}
 use Rattle.container.specs.Views.{SectionAt}
 use Rattle.tikomuci.specs.declared.Answer.{Answer}
 use Rattle.tikomuci.specs.Boundary as boundary
@@ -21,3 +23,11 @@ pub record SectionViewed (file : List ℕ) (id : ℕ) (r : Answer) : Type 0 wher
   pub answer : r ≡ view (sectionView file id)
   pub sound : (s : Span) → sectionView file id ≡ accepted s → SectionAt file id s
   pub complete : (s : Span) → SectionAt file id s → length file ≤ mostBytes → id < numSections → sectionView file id ≡ accepted s
+
+-- The view of row k, of the rows that a layout gives and the section that has them: it answers what the model answers,
+-- which is exactly the row asked for.
+pub record RowViewed (rowsIn : Placed → Rows (List ℕ)) (id : ℕ) (file : List ℕ) (k : ℕ) (r : Answer) : Type 0 where
+  pub answer : r ≡ view (rowView rowsIn file k)
+  pub sound : (s : Span) → rowView rowsIn file k ≡ accepted s → Viewed rowsIn id file k s
+  pub complete : (x : Placed) → Layout file x → length file ≤ mostBytes → k < length (rowsIn x .values) →
+      rowView rowsIn file k ≡ accepted (spanOf (rowsIn x) k)

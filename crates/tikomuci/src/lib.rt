@@ -1,6 +1,7 @@
 // The exported calls: thin, over plain numbers and byte slices. Each contract is that of the crate below it, seen through
 // the answer struct; a refused call changes no lent memory.
 use container::ViewRead;
+use decoder::FileRead;
 use encoding::EncodingWriter;
 use encoding::FloatType;
 use encoding::Patched;
@@ -34,9 +35,13 @@ ghost use Rattle.encoding.specs.Signed.{zigzag, pattern};
 ghost use Rattle.encoding.specs.Varint.{spelling};
 ghost use Rattle.reading.specs.Numbers.{varintAt, signedVarintAt, signedAt, paddingAt, itemsAt, remainingAt, placed};
 ghost use Rattle.reading.specs.Shown.{gotByte, gotU16, gotU32, gotNum, gotI32, gotI64, gotBytes, gotPadding, gotItems};
+ghost use Rattle.enums.specs.Container.{stringId, constantId, funcId};
+ghost use Rattle.format.specs.Views.{stringsIn, constantsIn, bodiesIn};
 ghost use Rattle.container.specs.Views.{viewOf};
+ghost use Rattle.decoder.specs.File.{fileRead};
 ghost use Rattle.tikomuci.specs.Boundary.{accepted, refusedAs, Puts, Writes, WritesFloat, Patches, nextPlace, nextAligned, number, signedNumber, reached, run, runOf, items, itemsOf, skipped};
-ghost use Rattle.tikomuci.specs.Views.{view, SectionViewed};
+ghost use Rattle.tikomuci.specs.Views.{view, SectionViewed, RowViewed};
+ghost use Rattle.tikomuci.specs.Files.{needed, Measured, FileDone};
 
 // What every call that can be refused answers.
 #[repr(C)]
@@ -614,4 +619,59 @@ pub extern "C" fn tikomuci_section(file: &[u8], id: u64) -> Answer
     ensures { λ r. ⌜ SectionViewed (now (file .entry)) id r ⌝ }
 {
     viewed(container::section(file, id))
+}
+
+// What a file needs: words of the sheet, and bytes of the pool.
+fn needs(read: FileRead) -> Answer
+    ensures { λ a. ⌜ a ≡ needed (fileRead read) ⌝ }
+{
+    match read {
+        FileRead::Got(need) => Answer::accept(need.words as u64, need.bytes as u64),
+        FileRead::Stop(stopped) => Answer {
+            refusal: stopped.no as u64,
+            stage: stopped.stage as u64,
+            first: 0,
+            second: 0,
+        },
+    }
+}
+
+// How large the stores for a file have to be: `first` counts the words of the sheet, `second` the bytes of the pool.
+#[no_mangle]
+pub extern "C" fn tikomuci_measure(file: &[u8]) -> Answer
+    ensures { λ r. ⌜ Measured (now (file .entry)) r ⌝ }
+{
+    needs(decoder::measure(file))
+}
+
+// The tables of a file: the sheet's words, little-endian, and the pool. The answer is that of tikomuci_measure.
+#[no_mangle]
+pub extern "C" fn tikomuci_read(file: &[u8], sheet: &mut [u8], pool: &mut [u8]) -> Answer
+    ensures { λ r. ⌜ FileDone (now (file .entry)) (now (sheet .entry)) (now (sheet .exit)) (now (pool .entry)) (now (pool .exit)) r ⌝ }
+{
+    needs(decoder::read(file, sheet, pool))
+}
+
+// The bytes of a string: `first` is their offset in the file, `second` how many they are.
+#[no_mangle]
+pub extern "C" fn tikomuci_string(file: &[u8], index: u64) -> Answer
+    ensures { λ r. ⌜ RowViewed stringsIn stringId (now (file .entry)) index r ⌝ }
+{
+    viewed(decoder::string(file, index))
+}
+
+// The bytes of a constant.
+#[no_mangle]
+pub extern "C" fn tikomuci_constant(file: &[u8], index: u64) -> Answer
+    ensures { λ r. ⌜ RowViewed constantsIn constantId (now (file .entry)) index r ⌝ }
+{
+    viewed(decoder::constant(file, index))
+}
+
+// The bytes of a function's body.
+#[no_mangle]
+pub extern "C" fn tikomuci_body(file: &[u8], index: u64) -> Answer
+    ensures { λ r. ⌜ RowViewed bodiesIn funcId (now (file .entry)) index r ⌝ }
+{
+    viewed(decoder::body(file, index))
 }

@@ -103,6 +103,30 @@ macro_rules! conversions {
     };
 }
 
+extern "C" {
+    fn tikomuci_measure(file: *const u8, file_len: usize) -> Answer;
+    fn tikomuci_read(
+        file: *const u8,
+        file_len: usize,
+        sheet: *mut u8,
+        sheet_len: usize,
+        pool: *mut u8,
+        pool_len: usize,
+    ) -> Answer;
+}
+
+/// How many words and pool bytes a file's tables take.
+pub fn measure(file: &[u8]) -> Answer {
+    // SAFETY: the pointer and the length are those of a slice that nobody changes until the call returns.
+    unsafe { tikomuci_measure(file.as_ptr(), file.len()) }
+}
+
+/// Reads a file's tables. The sheet's words are lent as bytes, little-endian, at any alignment.
+pub fn read(file: &[u8], sheet: &mut [u8], pool: &mut [u8]) -> Answer {
+    // SAFETY: as above, and both stores are ours alone until the call returns; `&mut` slices do not overlap.
+    unsafe { tikomuci_read(file.as_ptr(), file.len(), sheet.as_mut_ptr(), sheet.len(), pool.as_mut_ptr(), pool.len()) }
+}
+
 writers! {
     write_byte = tikomuci_write_byte(value: u8);
     write_varint = tikomuci_write_varint(value: u64);
@@ -147,6 +171,9 @@ readers! {
 }
 
 views! {
+    string = tikomuci_string;
+    constant = tikomuci_constant;
+    body = tikomuci_body;
     section = tikomuci_section;
 }
 

@@ -8,6 +8,7 @@ use oracle::bytecode::decoder::{decode_bytecode, window::Reader};
 use oracle::bytecode::encoding::{patch_u32, patch_u64, EncodingWriter};
 use oracle::bytecode::MAGIC;
 
+use crate::files::{invalid_utf8, smallest};
 use crate::tally::Tally;
 
 fn panics<T>(work: impl FnOnce() -> T) -> bool {
@@ -51,13 +52,14 @@ fn remaining_past_the_end() -> bool {
 
 type Difference = (&'static str, fn() -> bool);
 
-const DIFFERENCES: [Difference; 6] = [
+const DIFFERENCES: [Difference; 7] = [
     ("an output that is too small", output_too_small),
     ("a patch outside the buffer", patch_outside),
     ("a patch whose end wraps", patch_whose_end_wraps),
     ("a run of bytes whose end wraps", run_whose_end_wraps),
     ("a section whose end wraps", section_whose_end_wraps),
     ("what remains past the end", remaining_past_the_end),
+    ("a string that is no UTF-8", invalid_utf8),
 ];
 
 pub fn compare(add: &mut impl FnMut(Tally)) {
@@ -67,6 +69,10 @@ pub fn compare(add: &mut impl FnMut(Tally)) {
     set_hook(Box::new(|_| {}));
     for (what, holds) in DIFFERENCES {
         tally.case(holds(), [0; 3], || format!("{what} is not as docs/DIFFERENCES.md says"));
+    }
+    for smallest in smallest() {
+        let what = smallest.what;
+        tally.case(smallest.holds(), [0; 3], || format!("{what} is not as docs/DIFFERENCES.md says"));
     }
     set_hook(loud);
     add(tally);

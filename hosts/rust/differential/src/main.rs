@@ -1,8 +1,10 @@
 //! Compares every call of the library with encoding.rs and decoder.rs: answers, written bytes, and bytes that must
-//! stay. A seed may be given as the argument or in TIKOMUCI_SEED. Exits with 1 if anything differs.
+//! stay. A seed may be given as the argument or in TIKOMUCI_SEED. Exits with 1 if anything differs. With
+//! `--write-answers PATH` it writes the fixed list of decoder.rs's answers instead.
 
 mod containers;
 mod differences;
+mod files;
 mod floats;
 mod readers;
 mod tally;
@@ -19,7 +21,26 @@ fn seed() -> Result<u64, String> {
     given.map_or(Ok(SEED), |text| text.parse().map_err(|e| format!("the seed {text:?} is no number: {e}")))
 }
 
+/// Writes the fixed list of decoder.rs's answers, if asked to.
+fn writes_answers() -> Option<ExitCode> {
+    let mut arguments = std::env::args().skip(1);
+    if arguments.next()? != "--write-answers" {
+        return None;
+    }
+    let path = arguments.next()?;
+    Some(files::write_answers(&path).map_or_else(
+        |error| {
+            eprintln!("{path}: {error}");
+            ExitCode::from(2)
+        },
+        |()| ExitCode::SUCCESS,
+    ))
+}
+
 fn main() -> ExitCode {
+    if let Some(code) = writes_answers() {
+        return code;
+    }
     let seed = match seed() {
         Ok(seed) => seed,
         Err(message) => {
@@ -39,6 +60,7 @@ fn main() -> ExitCode {
     readers::compare(&mut random, &mut add);
     containers::compare(&mut random, &mut add);
     floats::compare(&mut random, &mut add);
+    files::compare(&mut random, &mut add);
     differences::compare(&mut add);
     println!("{cases} cases compared, {differing} differ");
     if differing == 0 {

@@ -1,0 +1,102 @@
+//! A file before its bytes are laid down: a version and sections.
+
+use oracle::bytecode::MAGIC;
+
+use super::dice::{Dice, Freedom};
+use super::wire::Wire;
+
+#[derive(Clone, Copy)]
+pub struct Version {
+    pub major: u8,
+    pub minor: u8,
+    pub tag: u16,
+}
+
+impl Version {
+    pub fn since(self, major: u8, minor: u8) -> bool {
+        (self.major, self.minor) >= (major, minor)
+    }
+}
+
+/// Versions at which a class begins, and their neighbours.
+const VERSIONS: [(u8, u8, u16); 12] = [
+    (13, 1, 0),
+    (13, 2, 0),
+    (13, 2, 65535),
+    (13, 3, 0),
+    (13, 3, 1),
+    (13, 3, 65535),
+    (13, 4, 0),
+    (13, 4, 7),
+    (12, 255, 9),
+    (14, 0, 0),
+    (0, 4, 0),
+    (255, 255, 65535),
+];
+
+pub fn version(dice: &mut Dice) -> Version {
+    let (major, minor, tag) = match dice.below(8) {
+        0 => (dice.word() as u8, dice.word() as u8, dice.word() as u16),
+        1 | 2 => VERSIONS[dice.below(VERSIONS.len() as u64) as usize],
+        _ => (13, 2 + dice.below(3) as u8, 0),
+    };
+    Version { major, minor, tag }
+}
+
+#[derive(Clone)]
+pub struct Plan {
+    pub version: Version,
+    pub sections: Vec<(u8, Vec<u8>)>,
+}
+
+const ALIGNMENTS: [u64; 14] = [0, 1, 2, 3, 4, 5, 7, 8, 12, 16, 24, 31, 64, 100];
+
+impl Plan {
+    /// Sections of no table before, between and behind those that count: ids without meaning, and earlier ones of an
+    /// id that comes again, whose payload is not parsed.
+    pub fn add_others(&mut self, dice: &mut Dice) {
+        while dice.one_in(3) {
+            let place = dice.below(self.sections.len() as u64 + 1) as usize;
+            let id = match self.sections.get(place) {
+                Some(&(later, _)) if dice.takes(Freedom::Repeated, 2) => later,
+                _ => {
+                    dice.took(Freedom::UnknownId);
+                    8 + dice.below(120) as u8
+                }
+            };
+            let mut payload = Wire::default();
+            payload.some_bytes(dice, 9);
+            self.sections.insert(place, (id, payload.0));
+        }
+    }
+
+    /// The file: each number in any spelling, any alignment, either end marker, and bytes behind it.
+    pub fn lay(&self, dice: &mut Dice) -> Vec<u8> {
+        let mut wire = Wire::default();
+        wire.bytes(&MAGIC);
+        wire.bytes(&[self.version.major, self.version.minor]);
+        wire.fixed(self.version.tag.into(), 2);
+        for (id, payload) in &self.sections {
+            let aligned = dice.one_in(2);
+            wire.byte(id | u8::from(aligned) << 7);
+            wire.varint(dice, payload.len() as u64);
+            if aligned {
+                let alignment = ALIGNMENTS[dice.below(14) as usize];
+                dice.took(match alignment {
+                    0 | 1 => Freedom::SmallAlignment,
+                    _ if alignment.is_power_of_two() => Freedom::Aligned,
+                    _ => Freedom::OddAlignment,
+                });
+                wire.varint(dice, alignment);
+                wire.padding(alignment);
+            }
+            wire.bytes(payload);
+        }
+        wire.byte(u8::from(dice.takes(Freedom::EndWithTopBit, 2)) << 7);
+        if dice.takes(Freedom::AfterEnd, 2) {
+            wire.byte(dice.word() as u8);
+            wire.some_bytes(dice, 3);
+        }
+        wire.0
+    }
+}
