@@ -1,1 +1,2 @@
 pub mod LawsStore
+pub mod LawsWords

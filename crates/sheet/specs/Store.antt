@@ -1,10 +1,14 @@
 -- A store of bytes that holds little-endian words of eight bytes (document 01, "The sheet": across the C boundary the list
 -- is lent as bytes, little-endian; a store counts its whole words).
-use Prim.Native.Nat.{ℕ, _+_, _*_}
+use Prim.Native.Nat.{ℕ, _+_, _*_, _/_}
 use mathlib.Core.List.{List, [], _∷_}
 use lib.ListN.{length}
-use Rattle.exact.specs.Fixed.{bytesOf}
+use Rattle.exact.specs.Fixed.{bytesOf, nums}
 use Rattle.encoding.specs.Out.{put}
+
+-- The whole words of a store.
+unfoldable pub wordsIn : List ℕ → List ℕ
+wordsIn s = nums (length s / 8) 8 s
 
 -- The store with w as its word i; as it was where it has none.
 unfoldable pub putWord : List ℕ → ℕ → ℕ → List ℕ

@@ -1,9 +1,12 @@
 // Words in a lent byte store, little-endian, whole words only; and runs of bytes in a lent pool. What has no room is not
 // stored, so that one function measures on an empty store and fills a large enough one.
 use encoding::EncodingWriter;
+use reading::NumRead;
+use reading::Reader;
 ghost use mathlib.Core.Path.{_≡_};
+ghost use lib.ListN.{getD};
 ghost use Rattle.encoding.specs.Out.{put};
-ghost use Rattle.sheet.specs.Store.{putWord};
+ghost use Rattle.sheet.specs.Store.{putWord, wordsIn};
 
 // Stores word i where the store has it, and else nothing.
 pub fn put_word(store: &mut [u8], i: usize, w: u64)
@@ -11,6 +14,19 @@ pub fn put_word(store: &mut [u8], i: usize, w: u64)
 {
     if i < store.len() / 8 {
         encoding::patch_u64(store, i * 8, w);
+    }
+}
+
+// Word i of the store; 0 where it has none.
+pub fn word_at(store: &[u8], i: usize) -> u64
+    ensures { λ r. ⌜ r ≡ getD (wordsIn (now (store .entry))) i 0 ⌝ }
+{
+    if store.len() / 8 <= i {
+        return 0;
+    }
+    match (Reader { pos: i * 8 }).read_le_u64(store) {
+        NumRead::Stop(_) => 0,
+        NumRead::Got(w, _) => w,
     }
 }
 

@@ -1,0 +1,9 @@
+pub mod LawsJudge
+pub mod LawsKinds
+pub mod LawsPlaced
+pub mod LawsRows
+pub mod LawsSteps
+pub mod LawsTables
+pub mod LawsTests
+pub mod LawsThru
+pub mod LawsTypes

@@ -1,0 +1,3 @@
+pub mod Judge
+pub mod Rows
+pub mod Steps
