@@ -1,12 +1,13 @@
 # make demo: prove, build the library, and see it used from C++.
 # make test: what the gate runs: everything is proved from nothing, and the tests of the hosts.
+# make command: build/tikomuci, which shows and checks files.
 # make bench: our calls beside encoding.rs and decoder.rs.
 # make answers: writes the list of decoder.rs's answers that the reader tests replay.
 
 SHELL := bash
 .SHELLFLAGS := -euo pipefail -c
 .DELETE_ON_ERROR:
-.PHONY: help demo test bench answers verdict library cpp-tests reader-tests comparison lint clean
+.PHONY: help demo test command bench answers verdict library cpp-tests reader-tests comparison lint clean
 
 include tools/machine.mk
 
@@ -20,6 +21,8 @@ ANSWERS := hosts/rust/boundary/tests/data/answers.txt
 WARNINGS := -Wall -Wextra -Werror -pedantic -Wshadow -Wconversion
 CFLAGS := -std=c99 -O2 $(WARNINGS) -Iinclude
 CXXFLAGS := -std=c++20 -O2 $(WARNINGS) -Iinclude
+TESTS := $(patsubst hosts/cpp/%.cpp,build/%.o,$(wildcard hosts/cpp/*tests.cpp))
+COMMAND := $(patsubst hosts/cpp/%.cpp,build/%.o,$(wildcard hosts/cpp/command/*.cpp))
 CARGO := cargo
 IN_RUST := --manifest-path hosts/rust/Cargo.toml --locked --quiet
 
@@ -38,6 +41,9 @@ test:
 	tools/timed "reader tests" $(MAKE) --no-print-directory reader-tests
 	tools/timed "comparison with the Rust" $(MAKE) --no-print-directory comparison
 
+command: library
+	$(MAKE) --no-print-directory build/tikomuci
+
 # The verdict is kept outside target/, which rt ci removes.
 verdict:
 	@mkdir -p build
@@ -47,9 +53,10 @@ library:
 	@mkdir -p build
 	rt staticlib tikomuci >build/staticlib.log 2>&1 || { cat build/staticlib.log; exit 1; }
 
-cpp-tests: build/tests
+cpp-tests: build/tests build/tikomuci
 	$(CXX) -std=c++11 $(WARNINGS) -fsyntax-only -x c++ include/tikomuci.h
 	$(RUN) build/tests
+	hosts/cpp/command/tests $(RUN) build/tikomuci
 
 reader-tests:
 	$(CARGO) test $(IN_RUST) --package boundary --test readers --test views --test files
@@ -80,7 +87,7 @@ endif
 
 lint:
 	rt fmt --check
-	clang-format --dry-run -Werror include/* hosts/cpp/*
+	clang-format --dry-run -Werror include/* hosts/cpp/*.c hosts/cpp/*.?pp hosts/cpp/command/*.?pp
 	cargo fmt --manifest-path hosts/rust/Cargo.toml --all --check
 	env -u RUSTC -u CARGO_BUILD_TARGET $(CARGO) clippy $(IN_RUST) --workspace --all-targets -- -D warnings
 
@@ -93,11 +100,18 @@ $(LIBRARY):
 build/demo: build/demo.o $(LIBRARY)
 	$(CXX) $^ -o $@
 
-build/tests: build/tests.o build/header.o $(LIBRARY)
+build/tests: $(TESTS) build/header.o $(LIBRARY)
 	$(CXX) $^ -o $@
 
+build/tikomuci: $(COMMAND) $(LIBRARY)
+	$(CXX) $^ -o $@
+
+build/demo.o $(TESTS) $(COMMAND): include/tikomuci_tables.hpp
+$(TESTS): hosts/cpp/check.hpp
+$(COMMAND): hosts/cpp/command/command.hpp
+
 build/%.o: hosts/cpp/%.cpp include/tikomuci.hpp include/tikomuci.h
-	@mkdir -p build
+	@mkdir -p $(@D)
 	$(CXX) $(CXXFLAGS) -c $< -o $@
 
 build/header.o: hosts/cpp/header.c include/tikomuci.h

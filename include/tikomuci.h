@@ -23,7 +23,7 @@ typedef struct {
     uint64_t second;  /* of an acceptance, see each call; else 0 */
 } tikomuci_answer;
 
-/* The refusal numbers. The calls of this header give 1 to 5, 11 and 14. */
+/* The refusal numbers. The calls of this header give 1 to 11 and 14. */
 enum {
     TIKOMUCI_REFUSAL_LIMIT = 1,     /* file, image, pool or sheet over its limit */
     TIKOMUCI_REFUSAL_SHORT = 2,     /* the data ends inside an item */
@@ -41,7 +41,7 @@ enum {
     TIKOMUCI_REFUSAL_ABSENT = 14    /* asked index or section not there; patch outside */
 };
 
-/* The stages: the limits, the parts of a file in the order in which they are read, and calls that read no file. */
+/* The stages: the limits, the parts of a file in the order in which they are read, and what comes after them. */
 enum {
     TIKOMUCI_STAGE_LIMITS = 0,
     TIKOMUCI_STAGE_HEADER = 1,
@@ -53,7 +53,7 @@ enum {
     TIKOMUCI_STAGE_GLOBAL = 7,
     TIKOMUCI_STAGE_FUNC = 8,
     TIKOMUCI_STAGE_DEBUG = 9,
-    TIKOMUCI_STAGE_CALL = 10 /* asked indices, and every call that is not reading a container */
+    TIKOMUCI_STAGE_CALL = 10 /* stores, asked indices, and every call that is not reading a container */
 };
 
 /* The section ids. */
@@ -160,8 +160,36 @@ uint8_t tikomuci_f8e4m3fn(uint64_t f64_bits);
 uint8_t tikomuci_f8e5m2(uint64_t f64_bits);
 
 /*
- * Views of a file of Tile IR bytecode.
+ * Whole files of Tile IR bytecode.
+ *
+ * The tables of a file are read into a sheet and a pool. The sheet is a list of 64-bit words: the version, the
+ * producer, the pool's length and a table of contents in words 0 to 18, and the rows of the tables from word 19 on. The
+ * pool has the bytes of the strings, the constants and the bodies, one after the other.
+ *
+ * Measuring, reading and the views of a row judge the whole file, and the first refusal in reading order counts: 1 at
+ * stage 0; 2 and 4 at stage 1; 2, 3 and 5 at stage 2; 2, 3, 5 and 6 at stages 3 and 6; 2, 3 and 7 at stage 4; 2, 3, 5,
+ * 6 and 8 at stage 5; 2 and 3 at stage 7; 2, 3 and 10 at stage 8; 2, 3, 5, 6 and 9 at stage 9.
  */
+
+/* How large the stores have to be: `first` is the sheet's words (of 8 bytes each), `second` the pool's bytes. */
+tikomuci_answer tikomuci_measure(const uint8_t *file, size_t file_len);
+
+/*
+ * The tables of a file, with the answer of tikomuci_measure. The sheet's store is lent as bytes and counts its whole
+ * words; the words are little-endian, and the store need not be aligned. A store that is smaller than the result is 11
+ * at stage 10, after all refusals of the file. A refused call changes neither store, and an accepted one changes no
+ * byte behind the result.
+ */
+tikomuci_answer tikomuci_read(const uint8_t *file, size_t file_len, uint8_t *sheet, size_t sheet_len, uint8_t *pool,
+                              size_t pool_len);
+
+/*
+ * The string, the constant or the body of the function that has this number, counted from 0: `first` is its offset in
+ * the file, `second` its length. A number that no row has is 14 at stage 10, after all refusals of the file.
+ */
+tikomuci_answer tikomuci_string(const uint8_t *file, size_t file_len, uint64_t index);
+tikomuci_answer tikomuci_constant(const uint8_t *file, size_t file_len, uint64_t index);
+tikomuci_answer tikomuci_body(const uint8_t *file, size_t file_len, uint64_t index);
 
 /*
  * The whole payload that counts for a section id, which is the last one with that id: `first` is its offset in the

@@ -5,11 +5,14 @@
 #ifndef TIKOMUCI_HPP
 #define TIKOMUCI_HPP
 
+#include <array>
 #include <bit>
+#include <cstddef>
 #include <cstdint>
 #include <functional>
 #include <span>
 #include <stdexcept>
+#include <string_view>
 
 #include "tikomuci.h"
 
@@ -38,10 +41,66 @@ struct [[nodiscard]] Got {
 
 inline Outcome outcome_of(const tikomuci_answer &answer) { return {answer.refusal, answer.stage}; }
 
+/// A name for programs and messages, and a line for people. Both are literals: their data() ends with a zero.
+struct Named {
+    std::string_view name;
+    std::string_view text;
+};
+
+inline constexpr std::array<Named, 15> REFUSALS = {{
+    {"accepted", "the call was accepted"},
+    {"limit", "a file, image, pool or sheet is over its limit"},
+    {"short", "the data ends inside an item"},
+    {"overlong", "a varint goes on past its tenth byte"},
+    {"magic", "the first eight bytes are not those of Tile IR bytecode"},
+    {"padding", "a padding byte is not CB"},
+    {"bounds", "an entry starts after its end, ends outside its data, or is an empty debug attribute"},
+    {"producer", "the producer is no string of the file"},
+    {"type-tag", "a type has a tag that is not known"},
+    {"debug-tag", "a debug attribute has a tag that is not known"},
+    {"hints", "a function has optimization hints"},
+    {"full", "a store or output is smaller than the result"},
+    {"sheet", "the sheet is not well-formed"},
+    {"start", "a start does not fit 32 bits"},
+    {"absent", "what was asked for is not there"},
+}};
+
+inline constexpr std::array<Named, 11> STAGES = {{
+    {"limits", "before the first byte was read"},
+    {"header", "in the magic or the version"},
+    {"sections", "on the way from section to section"},
+    {"string", "in the String section"},
+    {"producer", "in the Producer section"},
+    {"type", "in the Type section"},
+    {"constant", "in the Constant section"},
+    {"global", "in the Global section"},
+    {"func", "in the Func section"},
+    {"debug", "in the Debug section"},
+    {"call", "behind the file, or where no file is read"},
+}};
+
+/// The name and the line of a number; a number that no call answers has others.
+template <std::size_t Count>
+constexpr Named named(const std::array<Named, Count> &names, std::uint64_t number) {
+    return number < Count ? names[number] : Named{"unknown", "no call answers this number"};
+}
+
+constexpr std::string_view refusal_name(std::uint64_t refusal) { return named(REFUSALS, refusal).name; }
+constexpr std::string_view refusal_text(std::uint64_t refusal) { return named(REFUSALS, refusal).text; }
+constexpr std::string_view stage_name(std::uint64_t stage) { return named(STAGES, stage).name; }
+constexpr std::string_view stage_text(std::uint64_t stage) { return named(STAGES, stage).text; }
+
 /// Whether two spans share a byte. The library is proved for lent spans that do not.
 inline bool overlap(Bytes a, Bytes b) {
     const std::less<const std::uint8_t *> before;
     return !a.empty() && !b.empty() && before(a.data(), b.data() + b.size()) && before(b.data(), a.data() + a.size());
+}
+
+/// Throws std::invalid_argument if two lent spans overlap: no refusal means it, and the fault is the program's.
+inline void apart(Bytes a, Bytes b) {
+    if (overlap(a, b)) {
+        throw std::invalid_argument("tikomuci: the lent spans overlap");
+    }
 }
 
 template <typename Value>
@@ -71,17 +130,17 @@ class Writer {
 
     /// Throws std::invalid_argument if `data` overlaps the output, as the two calls below do.
     Outcome bytes(Bytes data) {
-        apart(data);
+        apart(data, out_);
         return moved(call(tikomuci_write_bytes, data.data(), data.size()));
     }
 
     Outcome le_var_size(std::span<const std::int32_t> values) {
-        apart(bytes_of(values));
+        apart(bytes_of(values), out_);
         return moved(call(tikomuci_write_le_var_size_i32, values.data(), values.size()));
     }
 
     Outcome le_var_size(std::span<const std::int64_t> values) {
-        apart(bytes_of(values));
+        apart(bytes_of(values), out_);
         return moved(call(tikomuci_write_le_var_size_i64, values.data(), values.size()));
     }
 
@@ -109,12 +168,6 @@ class Writer {
             at_ = answer.first;
         }
         return outcome_of(answer);
-    }
-
-    void apart(Bytes lent) const {
-        if (overlap(lent, out_)) {
-            throw std::invalid_argument("tikomuci: the lent spans overlap");
-        }
     }
 
     Output out_;
@@ -197,13 +250,52 @@ inline Outcome patch_u64(Output buf, std::uint64_t offset, std::uint64_t value) 
     return outcome_of(tikomuci_patch_u64(buf.data(), buf.size(), offset, value));
 }
 
-/// The whole payload that counts for a section id, as a part of the file.
-inline Got<Bytes> section(Bytes file, std::uint64_t id) {
-    const tikomuci_answer answer = tikomuci_section(file.data(), file.size(), id);
+/// How large the sheet and the pool of a file are.
+struct Size {
+    std::uint64_t words = 0;
+    std::uint64_t bytes = 0;
+
+    friend bool operator==(const Size &, const Size &) = default;
+};
+
+inline Got<Size> size_of(const tikomuci_answer &answer) { return {outcome_of(answer), {answer.first, answer.second}}; }
+
+/// A part of the file, or a refusal.
+inline Got<Bytes> view_of(Bytes file, const tikomuci_answer &answer) {
     if (answer.refusal != 0) {
         return {outcome_of(answer), {}};
     }
     return {{}, file.subspan(answer.first, answer.second)};
+}
+
+/// How large the stores have to be for the tables of a file, which is judged as a whole.
+[[nodiscard]] inline Got<Size> measure(Bytes file) { return size_of(tikomuci_measure(file.data(), file.size())); }
+
+/// Reads the tables of a file into lent stores; 11 if one is too small. The sheet's words are little-endian, wherever
+/// they stand. Throws std::invalid_argument if two of the spans overlap.
+[[nodiscard]] inline Got<Size> read(Bytes file, Output sheet, Output pool) {
+    apart(file, sheet);
+    apart(file, pool);
+    apart(sheet, pool);
+    return size_of(tikomuci_read(file.data(), file.size(), sheet.data(), sheet.size(), pool.data(), pool.size()));
+}
+
+/// The string, the constant or the body of the function with this number, as a part of the file; 14 if there is none.
+[[nodiscard]] inline Got<Bytes> string(Bytes file, std::uint64_t index) {
+    return view_of(file, tikomuci_string(file.data(), file.size(), index));
+}
+
+[[nodiscard]] inline Got<Bytes> constant(Bytes file, std::uint64_t index) {
+    return view_of(file, tikomuci_constant(file.data(), file.size(), index));
+}
+
+[[nodiscard]] inline Got<Bytes> body(Bytes file, std::uint64_t index) {
+    return view_of(file, tikomuci_body(file.data(), file.size(), index));
+}
+
+/// The whole payload that counts for a section id, as a part of the file.
+[[nodiscard]] inline Got<Bytes> section(Bytes file, std::uint64_t id) {
+    return view_of(file, tikomuci_section(file.data(), file.size(), id));
 }
 
 inline std::uint8_t f8e4m3fn(double value) { return tikomuci_f8e4m3fn(std::bit_cast<std::uint64_t>(value)); }

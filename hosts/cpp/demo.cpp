@@ -1,5 +1,5 @@
-// A tour of the library from C++: numbers spelled and read back, padding, 8-bit floats, and what a refusal leaves
-// alone.
+// A tour of the library from C++: numbers spelled and read back, padding, 8-bit floats, what a refusal leaves alone,
+// and the tables of a file.
 
 #include <array>
 #include <cstdio>
@@ -8,7 +8,7 @@
 #include <string>
 #include <vector>
 
-#include "tikomuci.hpp"
+#include "tikomuci_tables.hpp"
 
 namespace {
 
@@ -100,10 +100,14 @@ void read_counted_array() {
 }
 
 // Document 01's whole case: a file with one String section, which holds "a" and "bc".
+std::vector<std::uint8_t> whole_case() {
+    return {0x7F, 'T',  'i',  'l',  'e', 'I', 'R', 0x00, 13, 1, 0, 0, 0x81, 0x0F, 4,   0xCB,
+            2,    0xCB, 0xCB, 0xCB, 0,   0,   0,   0,    1,  0, 0, 0, 'a',  'b',  'c', 0};
+}
+
 void view_a_section() {
     heading("A section of a file, and the same file with a length that reaches too far");
-    std::vector<std::uint8_t> file = {0x7F, 'T',  'i',  'l',  'e', 'I', 'R', 0x00, 13, 1, 0, 0, 0x81, 0x0F, 4,   0xCB,
-                                      2,    0xCB, 0xCB, 0xCB, 0,   0,   0,   0,    1,  0, 0, 0, 'a',  'b',  'c', 0};
+    std::vector<std::uint8_t> file = whole_case();
     const auto strings = tikomuci::section(file, TIKOMUCI_SECTION_STRING);
     must(strings.outcome);
     std::printf("  String   %s\n", hex(strings.value).c_str());
@@ -111,6 +115,24 @@ void view_a_section() {
     std::printf("  Constant %s\n", said(constants.outcome).c_str());
     file[13] = 0x7F;
     std::printf("  damaged  %s\n", said(tikomuci::section(file, TIKOMUCI_SECTION_STRING).outcome).c_str());
+}
+
+void read_tables() {
+    heading("The tables of the file, and what is said of it when a string starts after its end");
+    std::vector<std::uint8_t> file = whole_case();
+    const auto tables = tikomuci::read(file);
+    must(tables.outcome);
+    const tikomuci::Sheet &sheet = tables.value.sheet;
+    std::printf("  %zu words, %zu bytes of pool, %zu strings\n", tables.value.words.size(), tables.value.pool.size(),
+                sheet.strings());
+    for (std::uint64_t i = 0; i <= sheet.strings(); ++i) {
+        const auto row = sheet.string(i);
+        std::printf("  string %llu  %s\n", static_cast<unsigned long long>(i), row ? hex(*row).c_str() : "not there");
+    }
+    file[20] = 2;
+    const Outcome refused = tikomuci::read(file).outcome;
+    std::printf("  %s: %s, %s\n", said(refused).c_str(), tikomuci::refusal_text(refused.refusal).data(),
+                tikomuci::stage_text(refused.stage).data());
 }
 
 // Two instances' profiles lie side by side in one cache. The first one's count is damaged and claims a number too many.
@@ -188,5 +210,6 @@ int main() {
     patch();
     convert_floats();
     view_a_section();
+    read_tables();
     return EXIT_SUCCESS;
 }

@@ -41,6 +41,11 @@ static const any_call calls[] = {
     (any_call)tikomuci_remaining,
     (any_call)tikomuci_f8e4m3fn,
     (any_call)tikomuci_f8e5m2,
+    (any_call)tikomuci_measure,
+    (any_call)tikomuci_read,
+    (any_call)tikomuci_string,
+    (any_call)tikomuci_constant,
+    (any_call)tikomuci_body,
     (any_call)tikomuci_section,
 };
 

@@ -5,7 +5,7 @@ use native.Mathlib.Omega.{arith}
 use native.Mathlib.Decide.{decLe}
 use mathlib.Core.Logic.{_⊎_, inl, inr}
 use mathlib.Core.List.{List, [], _∷_, _++_}
-use lib.ListN.{length, getD}
+use lib.ListN.{length}
 use Rattle.exact.specs.Tiling.{join}
 use Rattle.exact.proofs.LawsChoice.{choose-yes, choose-no}
 use Rattle.encoding.specs.Out.{put, flat}
@@ -14,13 +14,12 @@ use Rattle.enums.specs.declared.BytecodeVersion.{BytecodeVersion}
 use Rattle.reading.proofs.LawsShown.{only}
 use Rattle.format.specs.Tables.{Version, Tables}
 use Rattle.format.specs.Sections.{Section}
-use Rattle.format.specs.Sound.{All, Fits}
 use Rattle.format.specs.Explains.{Placed, Container, class, Explains}
 use Rattle.format.specs.Read.{Read, accepted, refused, mapRead}
 use Rattle.format.specs.Views.{andThen}
 use Rattle.format.specs.Decode.{mostBytes, payloads, placed, onlyTables, decode}
 use Rattle.format.specs.Sheet.{sheetOf, poolOf}
-use Rattle.format.proofs.Decoded.{accepted-value, refused-not-accepted, placed-sound, decode-sound, decode-complete, tables-only}
+use Rattle.format.proofs.Decoded.{accepted-value, refused-not-accepted, map-inv, placed-sound, decode-sound, decode-complete, tables-only}
 use Rattle.format.proofs.AfterEnd.{withAfter, after-end}
 use Rattle.container.specs.declared.sections.SectionPlace.{SectionPlace}
 use Rattle.container.specs.declared.sections.Stopped.{Stopped}
@@ -35,20 +34,6 @@ use Rattle.decoder.specs.File.{fileRead, needOf, runsOf, PassPost, Measu
 use Rattle.decoder.specs.Pass.{passOf, valueOf, allWords, allRuns, filledSheet, named, passed, headWords, fileOf, Passes}
 use Rattle.decoder.proofs.LawsPassed.{sevenOf, allOf, passed-payloads, named-producer, kept-version}
 use Rattle.decoder.proofs.LawsSheet.{seven-runs, seven-length, runs-pool, seven-bytes, seven-sheet}
-
--- What is known of each element of a list is known of all.
-pub all-bytes : (l : List ℕ) → ((i : ℕ) → getD l i 0 < 2 ^ 8) → All (Fits 8) l
-all-bytes [] h = tt
-all-bytes (b ∷ l) h = (h 0, all-bytes l (λ i. h (suc i)))
-
-pub no-bytes : (l : List ℕ) → length l ≤ 0 → All (Fits 8) l
-no-bytes [] h = tt
-no-bytes (b ∷ l) h = absurd (omega arith)
-
-map-inv : {A B : Type 0} (f : A → B) (r : Read A) (w : B) → mapRead f r ≡ accepted w → (v : A) × (r ≡ accepted v) × (f v ≡ w)
-unfolding mapRead
-map-inv f (accepted v) w e = (v, refl, accepted-value e)
-map-inv f (refused c n i) w e = absurd (refused-not-accepted e)
 
 map-refused : {A B : Type 0} (f : A → B) (r : Read A) (c n i : ℕ) → mapRead f r ≡ refused c n i → r ≡ refused c n i
 unfolding mapRead

@@ -28,11 +28,8 @@ use Rattle.sheet.specs.Store.{putWords}
 use Rattle.sheet.proofs.LawsStore.{putWords-append, putWords-swap}
 use Rattle.decoder.specs.File.{runsOf}
 use Rattle.decoder.specs.Pass.{allWords, allRuns, contentsOf, filledSheet, headWords}
+use Rattle.decoder.proofs.LawsFilling.{join-append}
 use Rattle.decoder.proofs.LawsPassed.{sevenOf}
-
-join-append : {A : Type 0} (a b : List (List A)) → join (a ++ b) ≡ join a ++ join b
-join-append [] b = refl
-join-append (x ∷ a) b = ap (λ z. x ++ z) (join-append a b) ∙ sym (append-assoc x (join a) (join b))
 
 -- Five words, fourteen words and others are put in any order.
 put-parts : (s h c w : List ℕ) → length h ≡ 5 → length c ≡ 14 →

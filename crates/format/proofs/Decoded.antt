@@ -157,7 +157,7 @@ pub placed-complete : (file : List ℕ) (x : Placed) → Layout file x → lengt
 unfolding placed
 placed-complete file x l h = choose-yes (decLe (length file) mostBytes) _ _ h ∙ read-complete file x l
 
-map-inv : {A B : Type 0} (f : A → B) (r : Read A) (w : B) → mapRead f r ≡ accepted w → (v : A) × (r ≡ accepted v) × (f v ≡ w)
+pub map-inv : {A B : Type 0} (f : A → B) (r : Read A) (w : B) → mapRead f r ≡ accepted w → (v : A) × (r ≡ accepted v) × (f v ≡ w)
 unfolding mapRead
 map-inv f (accepted v) w e = (v, refl, accepted-value e)
 map-inv f (refused c n i) w e = absurd (refused-not-accepted e)

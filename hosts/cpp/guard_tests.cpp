@@ -1,0 +1,257 @@
+// Tests of the calls over whole files where each lent span ends at a page that cannot be read or written, or begins
+// behind one: a call that reaches outside by one byte ends the program.
+
+#include <sys/mman.h>
+#include <sys/wait.h>
+#include <unistd.h>
+
+#include <algorithm>
+#include <array>
+#include <csignal>
+#include <cstdlib>
+#include <limits>
+#include <optional>
+#include <string>
+#include <vector>
+
+#include "check.hpp"
+#include "tikomuci_tables.hpp"
+
+namespace {
+
+using tikomuci::Bytes;
+using tikomuci::Outcome;
+using tikomuci::outcome_of;
+using tikomuci::Output;
+using tikomuci::Size;
+
+enum class Side { Begin, End };
+
+// Memory between two pages that nothing may touch; a span of it stands at its begin or at its end.
+class Guarded {
+  public:
+    explicit Guarded(std::size_t pages) : page_(static_cast<std::size_t>(sysconf(_SC_PAGESIZE))), size_(pages * page_) {
+        void *const memory = mmap(nullptr, size_ + 2 * page_, PROT_NONE, MAP_PRIVATE | MAP_ANONYMOUS, -1, 0);
+        if (memory == MAP_FAILED) {
+            std::perror("mmap");
+            std::exit(EXIT_FAILURE);
+        }
+        memory_ = static_cast<std::uint8_t *>(memory);
+        allow(PROT_READ | PROT_WRITE);
+    }
+    ~Guarded() { munmap(memory_, size_ + 2 * page_); }
+    Guarded(const Guarded &) = delete;
+    Guarded &operator=(const Guarded &) = delete;
+
+    [[nodiscard]] Output span(std::size_t size, Side side) const {
+        const Output inner(memory_ + page_, size_);
+        return side == Side::Begin ? inner.first(size) : inner.last(size);
+    }
+
+    // These bytes, which may be read and not be written until the next call.
+    Bytes lent(const Wire &bytes, Side side) {
+        allow(PROT_READ | PROT_WRITE);
+        const Output place = span(bytes.size(), side);
+        std::copy(bytes.begin(), bytes.end(), place.begin());
+        allow(PROT_READ);
+        return place;
+    }
+
+    // A store of this size, filled with the canary as the memory around it is.
+    Output store(std::size_t size, Side side) {
+        std::fill_n(memory_ + page_, size_, CANARY);
+        return span(size, side);
+    }
+
+    // Whether all memory holds the canary but for these bytes at the store's begin.
+    [[nodiscard]] bool holds(Output place, const Wire &bytes) const {
+        Wire wanted(size_, CANARY);
+        std::copy(bytes.begin(), bytes.end(), wanted.begin() + (place.data() - (memory_ + page_)));
+        return std::equal(wanted.begin(), wanted.end(), memory_ + page_);
+    }
+
+  private:
+    void allow(int what) {
+        if (mprotect(memory_ + page_, size_, what) != 0) {
+            std::perror("mprotect");
+            std::exit(EXIT_FAILURE);
+        }
+    }
+
+    std::size_t page_;
+    std::size_t size_;
+    std::uint8_t *memory_ = nullptr;
+};
+
+constexpr int CAUGHT = 42;
+
+// Whether a child that does this touches memory that nothing may touch.
+template <typename Touch>
+bool ends(Touch touch) {
+    const pid_t child = fork();
+    if (child == 0) {
+        std::signal(SIGSEGV, [](int) { _exit(CAUGHT); });
+        touch();
+        _exit(EXIT_SUCCESS);
+    }
+    int status = 0;
+    return child > 0 && waitpid(child, &status, 0) == child && WIFEXITED(status) && WEXITSTATUS(status) == CAUGHT;
+}
+
+// The guards catch what they are there for: a byte outside a span, and a call that is told of one byte too many.
+void guards_hold() {
+    Guarded memory(1);
+    Guarded stores(1);
+    const Wire file = whole_case();
+    const auto at = [](const std::uint8_t *place) { return *static_cast<const volatile std::uint8_t *>(place); };
+    const Bytes front = memory.lent(file, Side::Begin);
+    expect(ends([&] { static_cast<void>(at(front.data() - 1)); }), "the byte before a span cannot be read");
+    expect(!ends([&] { static_cast<void>(at(front.data())); }), "the first byte of a span can be read");
+    const Bytes back = memory.lent(file, Side::End);
+    expect(ends([&] { static_cast<void>(at(back.data() + back.size())); }), "the byte behind a span cannot be read");
+    expect(ends([&] { *const_cast<volatile std::uint8_t *>(back.data()) = 0; }), "a lent file cannot be written");
+    const Output pool = stores.store(2, Side::End);
+    Wire sheet(21 * 8);
+    expect(ends([&] { static_cast<void>(tikomuci_read(back.data(), 32, sheet.data(), sheet.size(), pool.data(), 3)); }),
+           "a pool store that is smaller than was said");
+    const Bytes endless = memory.lent(Wire(file.begin(), file.end() - 1), Side::End);
+    expect(ends([&] { static_cast<void>(tikomuci_measure(endless.data(), 32)); }), "a file shorter than was said");
+}
+
+struct Memories {
+    Guarded file{1};
+    Guarded sheet{1};
+    Guarded pool{1};
+};
+
+constexpr std::array<Side, 2> SIDES = {Side::Begin, Side::End};
+constexpr std::array<std::uint8_t, 6> BYTES = {0x00, 0x01, 0x02, 0x7F, 0x80, 0xFF};
+
+// The view of a row has the bytes that the row has in the pool, inside the file.
+void same_row(const std::string &what, Bytes file, const tikomuci::Got<Bytes> &view, std::optional<Bytes> row) {
+    if (!row) {
+        expect(view.outcome == ABSENT, what + " is not there");
+        return;
+    }
+    expect(view && view.value.size() == row->size() && std::equal(row->begin(), row->end(), view.value.begin()), what);
+    expect(view.value.data() >= file.data() && view.value.data() + view.value.size() <= file.data() + file.size(),
+           what + " lies in the file");
+}
+
+// A file at a guard through measure and the views, which a refused file refuses alike.
+Outcome judged(const std::string &what, Bytes file) {
+    const auto tables = tikomuci::read(file);
+    const tikomuci::Sheet &sheet = tables.value.sheet;
+    expect(tikomuci::measure(file).outcome == tables.outcome, what + ": measured as read");
+    for (const std::uint64_t index : {std::uint64_t{0}, std::uint64_t{1}, std::numeric_limits<std::uint64_t>::max()}) {
+        const auto string = tikomuci::string(file, index);
+        const auto constant = tikomuci::constant(file, index);
+        const auto body = tikomuci::body(file, index);
+        const std::string row = " " + std::to_string(index) + " of " + what;
+        if (tables) {
+            const auto function = sheet.function(index);
+            same_row("string" + row, file, string, sheet.string(index));
+            same_row("constant" + row, file, constant, sheet.constant(index));
+            same_row("body" + row, file, body, function ? std::optional(function->body) : std::nullopt);
+        } else {
+            expect(string.outcome == tables.outcome && constant.outcome == tables.outcome &&
+                       body.outcome == tables.outcome,
+                   "row" + row + ": the refusal");
+        }
+    }
+    return tables.outcome;
+}
+
+// Stores of just the size at a guard, and stores that are one word or one byte too small.
+void read_between(Memories &memories, const std::string &what, Bytes file, Side side) {
+    const auto size = tikomuci::measure(file);
+    Wire sheet(size.value.words * 8);
+    Wire pool(size.value.bytes);
+    const Outcome wanted = tikomuci::read(file, sheet, pool).outcome;
+    expect(wanted == size.outcome, what + ": read as measured");
+    for (const std::size_t less : {0, 1}) {
+        for (const std::size_t pool_less : {0, 1}) {
+            const std::size_t room = sheet.size() - std::min(sheet.size(), 8 * less);
+            const std::size_t pool_room = pool.size() - std::min(pool.size(), pool_less);
+            const bool fits = room == sheet.size() && pool_room == pool.size();
+            const Output sheet_place = memories.sheet.store(room, side);
+            const Output pool_place = memories.pool.store(pool_room, side);
+            const auto got = tikomuci::read(file, sheet_place, pool_place);
+            expect(got.outcome == (fits || !wanted ? wanted : FULL), what + ": the outcome");
+            const bool filled = fits && wanted;
+            expect(memories.sheet.holds(sheet_place, filled ? sheet : Wire{}), what + ": the sheet");
+            expect(memories.pool.holds(pool_place, filled ? pool : Wire{}), what + ": the pool");
+        }
+    }
+}
+
+void whole_files() {
+    Memories memories;
+    for (const Wire &file : {whole_case(), every_table()}) {
+        for (const Side side : SIDES) {
+            const std::string what = std::to_string(file.size()) + " bytes at a guard";
+            const Bytes lent = memories.file.lent(file, side);
+            expect(judged(what, lent) == Outcome{}, what + " are accepted");
+            read_between(memories, what, lent, side);
+        }
+    }
+}
+
+// Each file that is cut, and each byte as other bytes: many of these files are accepted, and many are refused.
+void damaged_files() {
+    Memories memories;
+    const Wire whole = every_table();
+    for (std::size_t size = 0; size < whole.size(); ++size) {
+        const Wire cut(whole.begin(), whole.begin() + static_cast<std::ptrdiff_t>(size));
+        const std::string what = "cut to " + std::to_string(size) + " bytes at a guard";
+        const Bytes lent = memories.file.lent(cut, Side::End);
+        expect(judged(what, lent).refusal == TIKOMUCI_REFUSAL_SHORT, what);
+        read_between(memories, what, lent, Side::End);
+    }
+    std::size_t accepted = 0;
+    std::size_t refused = 0;
+    for (std::size_t place = 0; place < whole.size(); ++place) {
+        for (const std::uint8_t byte : BYTES) {
+            Wire file = whole;
+            file[place] = byte;
+            const std::string what = "byte " + std::to_string(place) + " as " + std::to_string(byte) + " at a guard";
+            for (const Side side : SIDES) {
+                const Bytes lent = memories.file.lent(file, side);
+                const Outcome outcome = judged(what, lent);
+                read_between(memories, what, lent, side);
+                ++(outcome ? accepted : refused);
+            }
+        }
+    }
+    expect(accepted > 500 && refused > 1000, "damaged files of both kinds");
+}
+
+// The limit is judged by the length alone: of a longer file no byte is touched.
+void limits() {
+    const std::size_t most = std::size_t{1} << 30;
+    void *const memory = mmap(nullptr, most + 1, PROT_NONE, MAP_PRIVATE | MAP_ANONYMOUS | MAP_NORESERVE, -1, 0);
+    expect(memory != MAP_FAILED, "address space for a file over the limit");
+    if (memory == MAP_FAILED) {
+        return;
+    }
+    const Bytes file(static_cast<const std::uint8_t *>(memory), most + 1);
+    const Outcome limit{TIKOMUCI_REFUSAL_LIMIT, TIKOMUCI_STAGE_LIMITS};
+    expect(tikomuci::measure(file).outcome == limit, "a file over the limit is not measured");
+    expect(tikomuci::read(file, {}, {}).outcome == limit, "a file over the limit is not read");
+    expect(tikomuci::string(file, 0).outcome == limit, "no string of a file over the limit");
+    expect(tikomuci::constant(file, 0).outcome == limit, "no constant of a file over the limit");
+    expect(tikomuci::body(file, 0).outcome == limit, "no body of a file over the limit");
+    expect(mprotect(memory, most + 1, PROT_READ) == 0, "a file of zeros");
+    expect(tikomuci::measure(file.first(most)).outcome == Outcome{TIKOMUCI_REFUSAL_MAGIC, TIKOMUCI_STAGE_HEADER},
+           "a file at the limit is read");
+    munmap(memory, most + 1);
+}
+
+}  // namespace
+
+void guard_tests() {
+    guards_hold();
+    whole_files();
+    damaged_files();
+    limits();
+}
