@@ -1,3 +1,4 @@
 pub mod LawsBoundary
 pub mod LawsViews
 pub mod LawsFiles
+pub mod LawsSheets

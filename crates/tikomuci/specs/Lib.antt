@@ -1,3 +1,4 @@
 pub mod Boundary
 pub mod Views
 pub mod Files
+pub mod Sheets

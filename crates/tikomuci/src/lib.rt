@@ -18,6 +18,7 @@ use reading::PaddingRead;
 use reading::Reader;
 use reading::U16Read;
 use reading::U32Read;
+use writer::Imaged;
 ghost use mathlib.Core.Path.{_≡_};
 ghost use Prim.Native.Nat.{_-_};
 ghost use mathlib.Core.List.{[], _∷_, map};
@@ -42,6 +43,7 @@ ghost use Rattle.decoder.specs.File.{fileRead};
 ghost use Rattle.tikomuci.specs.Boundary.{accepted, refusedAs, Puts, Writes, WritesFloat, Patches, nextPlace, nextAligned, number, signedNumber, reached, run, runOf, items, itemsOf, skipped};
 ghost use Rattle.tikomuci.specs.Views.{view, SectionViewed, RowViewed};
 ghost use Rattle.tikomuci.specs.Files.{needed, Measured, FileDone};
+ghost use Rattle.tikomuci.specs.Sheets.{size, SheetWritten, SheetImaged};
 
 // What every call that can be refused answers.
 #[repr(C)]
@@ -674,4 +676,30 @@ pub extern "C" fn tikomuci_body(file: &[u8], index: u64) -> Answer
     ensures { λ r. ⌜ RowViewed bodiesIn funcId (now (file .entry)) index r ⌝ }
 {
     viewed(decoder::body(file, index))
+}
+
+// How long an image is.
+fn sized(image: Imaged) -> Answer
+    ensures { λ a. ⌜ a ≡ size image ⌝ }
+{
+    match image {
+        Imaged::Bytes(bytes) => Answer::accept(bytes as u64, 0),
+        Imaged::Refused(no) => Answer::refuse(no),
+    }
+}
+
+// The length of the file that a sheet would be written as: `first` counts its bytes.
+#[no_mangle]
+pub extern "C" fn tikomuci_image(sheet: &[u8]) -> Answer
+    ensures { λ r. ⌜ SheetImaged (now (sheet .entry)) r ⌝ }
+{
+    sized(writer::image(sheet))
+}
+
+// Writes the file of a sheet and its pool: `first` counts its bytes.
+#[no_mangle]
+pub extern "C" fn tikomuci_write(sheet: &[u8], pool: &[u8], out: &mut [u8]) -> Answer
+    ensures { λ r. ⌜ SheetWritten (now (sheet .entry)) (now (pool .entry)) (now (out .entry)) (now (out .exit)) r ⌝ }
+{
+    sized(writer::write(sheet, pool, out))
 }

@@ -1,0 +1,1 @@
+// No code: the marked table of document 01, proved row by row under one statement.

@@ -1,0 +1,41 @@
+-- What writing a handed sheet answers across the C boundary, and what it promises (document 01, "Refusal numbers": all
+-- writing is stage 10).
+use mathlib.Core.Path.{_≡_}
+use Prim.Native.Nat.{ℕ, _%_, _≤_}
+use mathlib.Core.List.{List}
+use lib.ListN.{length}
+use Rattle.format.specs.Tables.{Tables}
+use Rattle.format.specs.Decode.{mostBytes}
+use Rattle.format.specs.Sheet.{sheetOf, poolOf}
+use Rattle.format.specs.Sound.{Sound}
+use Rattle.format.specs.Image.{image}
+use Rattle.format.specs.Write.{mostWords}
+use Rattle.sheet.specs.Store.{wordsIn}
+use Rattle.writer.specs.Writes.{lengthOf, inRoom, withImage}
+use Rattle.writer.specs.Written.{writing, writingAlone, Kept}
+use Rattle.writer.specs.declared.Imaged.{Imaged}
+use Rattle.writer.specs.declared.Imaged.the-variants as told
+use Rattle.tikomuci.specs.declared.Answer.{Answer}
+use Rattle.tikomuci.specs.Boundary as boundary
+
+-- The length of the image; or the refusal's number.
+abbrev pub size : Imaged → Answer
+size (told.Bytes n) = boundary.accepted n 0
+size (told.Refused c) = boundary.refusedAs c
+
+-- Writing into the output out, which it leaves as out'.
+pub record SheetWritten (s pool out out' : List ℕ) (r : Answer) : Type 0 where
+  pub answer : r ≡ size (inRoom (length out) (writing s pool))
+  pub output : out' ≡ withImage out (writing s pool)
+  -- A refused call has changed nothing.
+  pub unchanged : (c : ℕ) → inRoom (length out) (writing s pool) ≡ told.Refused c → out' ≡ out
+  -- Only the image of the tables that were handed is written ..
+  pub written : (n : ℕ) → inRoom (length out) (writing s pool) ≡ told.Bytes n → Kept s pool out out' n
+  -- .. and that of all well-formed tables within the limits is, if it fits.
+  pub complete : (t : Tables) → Sound t → length s % 8 ≡ 0 → wordsIn s ≡ sheetOf t → pool ≡ poolOf t →
+      length (sheetOf t) ≤ mostWords → length (poolOf t) ≤ mostBytes → length (image t) ≤ mostBytes → length (image t) ≤ length out →
+      r ≡ size (told.Bytes (length (image t)))
+
+-- The length of what would be written.
+pub record SheetImaged (s : List ℕ) (r : Answer) : Type 0 where
+  pub answer : r ≡ size (lengthOf (writingAlone s))

@@ -1,0 +1,35 @@
+-- What a step of the writer leaves in the output that it was lent, and the next place that it answers. The function
+-- that fills the output is the one that measures: on an output of no bytes nothing is put and the places are the same.
+use mathlib.Core.Path.{_≡_}
+use mathlib.Core.Logic.{_⊎_}
+use Prim.Native.Nat.{ℕ, _+_, _^_, _<_}
+use mathlib.Core.List.{List, [], _++_}
+use lib.ListN.{length}
+use Rattle.exact.specs.Tiling.{join}
+use Rattle.sheet.specs.Store.{putRuns}
+
+-- The bytes bs were put from a place on, in runs of which each is put if it has room; the next place is behind them.
+pub record Puts (bs : List ℕ) (at : ℕ) (out out' : List ℕ) (next : ℕ) : Type 0 where
+  pub runs : List (List ℕ)
+  pub whole : join runs ≡ bs
+  pub output : out' ≡ putRuns out at runs
+  pub place : next ≡ at + length bs
+
+-- So it is as long as no place reaches 2^64.
+pub record Wrote (bs : List ℕ) (at : ℕ) (out out' : List ℕ) (next : ℕ) : Type 0 where
+  pub puts : at + length bs < 2 ^ 64 → Puts bs at out out' next
+
+-- From place i on the list has this part.
+pub record Lies (l : List ℕ) (i : ℕ) (part : List ℕ) : Type 0 where
+  pub front : List ℕ
+  pub behind : List ℕ
+  pub whole : l ≡ front ++ (part ++ behind)
+  pub place : length front ≡ i
+
+-- The pool has this run from byte i on. Where there is no output nobody looks: a call that measures is lent no pool.
+abbrev pub Lent : List ℕ → ℕ → List ℕ → List ℕ → Type 0
+Lent pool i run out = Lies pool i run ⊎ (out ≡ [])
+
+-- The run of len bytes from byte i of the pool was put.
+pub record RunPut (pool : List ℕ) (i len at : ℕ) (out out' : List ℕ) (next : ℕ) : Type 0 where
+  pub each : (run : List ℕ) → length run ≡ len → Lent pool i run out → Wrote run at out out' next
