@@ -23,7 +23,7 @@ typedef struct {
     uint64_t second;  /* of an acceptance, see each call; else 0 */
 } tikomuci_answer;
 
-/* The refusal numbers. The calls of this header give 1 to 11 and 14. */
+/* The refusal numbers. Each is given by a call of this header. */
 enum {
     TIKOMUCI_REFUSAL_LIMIT = 1,     /* file, image, pool or sheet over its limit */
     TIKOMUCI_REFUSAL_SHORT = 2,     /* the data ends inside an item */
@@ -162,9 +162,9 @@ uint8_t tikomuci_f8e5m2(uint64_t f64_bits);
 /*
  * Whole files of Tile IR bytecode.
  *
- * The tables of a file are read into a sheet and a pool. The sheet is a list of 64-bit words: the version, the
- * producer, the pool's length and a table of contents in words 0 to 18, and the rows of the tables from word 19 on. The
- * pool has the bytes of the strings, the constants and the bodies, one after the other.
+ * The tables of a file are read into a sheet and a pool, and written from them. The sheet is a list of 64-bit words:
+ * the version, the producer, the pool's length and a table of contents in words 0 to 18, and the rows of the tables
+ * from word 19 on. The pool has the bytes of the strings, the constants and the bodies, one after the other.
  *
  * Measuring, reading and the views of a row judge the whole file, and the first refusal in reading order counts: 1 at
  * stage 0; 2 and 4 at stage 1; 2, 3 and 5 at stage 2; 2, 3, 5 and 6 at stages 3 and 6; 2, 3 and 7 at stage 4; 2, 3, 5,
@@ -197,6 +197,26 @@ tikomuci_answer tikomuci_body(const uint8_t *file, size_t file_len, uint64_t ind
  * 1, 2, 3 and 5 at stage 2. An id that is not there is 14 at stage 10.
  */
 tikomuci_answer tikomuci_section(const uint8_t *file, size_t file_len, uint64_t id);
+
+/*
+ * Writing a file, the image of a sheet and a pool, and saying how large it is judge the whole sheet. It is lent as
+ * bytes; the words are little-endian, and it need not be aligned. All refusals are at stage 10, and the first in this
+ * order counts: 1 for a sheet over 2^26 words or a pool over 2^30 bytes; 12 for a sheet that is not well-formed, or not
+ * whole words, or whose word 4 is not the pool's length; 13; 1 for an image over 2^30 bytes; 11.
+ */
+
+/*
+ * How large the output has to be: `first` is the image's bytes, `second` is 0. No pool is lent: word 4 is compared with
+ * the sum of the row lengths only.
+ */
+tikomuci_answer tikomuci_image(const uint8_t *sheet, size_t sheet_len);
+
+/*
+ * The image of a sheet and a pool, with the answer of tikomuci_image. A refused call changes nothing, and an accepted
+ * one changes no byte of the output behind the image.
+ */
+tikomuci_answer tikomuci_write(const uint8_t *sheet, size_t sheet_len, const uint8_t *pool, size_t pool_len,
+                               uint8_t *out, size_t out_len);
 
 #ifdef __cplusplus
 }

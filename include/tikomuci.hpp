@@ -298,6 +298,23 @@ inline Got<Bytes> view_of(Bytes file, const tikomuci_answer &answer) {
     return view_of(file, tikomuci_section(file.data(), file.size(), id));
 }
 
+/// An image's bytes, or a refusal.
+inline Got<std::uint64_t> image_of(const tikomuci_answer &answer) { return {outcome_of(answer), answer.first}; }
+
+/// How many bytes the file of a sheet has. The sheet is judged as a whole, but for its pool.
+[[nodiscard]] inline Got<std::uint64_t> image(Bytes sheet) {
+    return image_of(tikomuci_image(sheet.data(), sheet.size()));
+}
+
+/// Writes the file of a sheet and its pool into a lent output; 11 if that is too small. The sheet's words are
+/// little-endian, wherever they stand. Throws std::invalid_argument if two of the spans overlap.
+[[nodiscard]] inline Got<std::uint64_t> write(Bytes sheet, Bytes pool, Output out) {
+    apart(sheet, pool);
+    apart(sheet, out);
+    apart(pool, out);
+    return image_of(tikomuci_write(sheet.data(), sheet.size(), pool.data(), pool.size(), out.data(), out.size()));
+}
+
 inline std::uint8_t f8e4m3fn(double value) { return tikomuci_f8e4m3fn(std::bit_cast<std::uint64_t>(value)); }
 inline std::uint8_t f8e5m2(double value) { return tikomuci_f8e5m2(std::bit_cast<std::uint64_t>(value)); }
 

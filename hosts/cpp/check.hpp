@@ -13,6 +13,7 @@ using Wire = std::vector<std::uint8_t>;
 
 constexpr std::uint8_t CANARY = 0xA5;
 constexpr tikomuci::Outcome FULL{TIKOMUCI_REFUSAL_FULL, TIKOMUCI_STAGE_CALL};
+constexpr tikomuci::Outcome SHEET{TIKOMUCI_REFUSAL_SHEET, TIKOMUCI_STAGE_CALL};
 constexpr tikomuci::Outcome ABSENT{TIKOMUCI_REFUSAL_ABSENT, TIKOMUCI_STAGE_CALL};
 
 inline int passed = 0;
@@ -31,6 +32,17 @@ inline Wire nine(std::uint8_t byte, std::uint8_t last) {
     Wire wire(9, byte);
     wire.push_back(last);
     return wire;
+}
+
+// The words of a sheet as the bytes that are lent.
+inline Wire little_endian(const std::vector<std::uint64_t> &words) {
+    Wire bytes;
+    for (const std::uint64_t word : words) {
+        for (unsigned shift = 0; shift < 64; shift += 8) {
+            bytes.push_back(static_cast<std::uint8_t>(word >> shift));
+        }
+    }
+    return bytes;
 }
 
 // Document 01's whole case: one String section of 15 bytes from place 16 on, which holds "a" and "bc".

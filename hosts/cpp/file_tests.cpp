@@ -36,16 +36,6 @@ std::vector<Case> cases() {
             {"no section", no_sections, no_rows, {}}};
 }
 
-Wire little_endian(const Sheet &words) {
-    Wire bytes;
-    for (const std::uint64_t word : words) {
-        for (unsigned shift = 0; shift < 64; shift += 8) {
-            bytes.push_back(static_cast<std::uint8_t>(word >> shift));
-        }
-    }
-    return bytes;
-}
-
 // Reads into a sheet store of `room` bytes at place `shift` of its memory and a pool store of `pool_room` bytes: the
 // outcome, and that only the result's own words and bytes are changed.
 void reads_into(const Case &c, std::size_t shift, std::size_t room, std::size_t pool_room) {

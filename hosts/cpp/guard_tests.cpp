@@ -126,6 +126,9 @@ struct Memories {
 
 constexpr std::array<Side, 2> SIDES = {Side::Begin, Side::End};
 constexpr std::array<std::uint8_t, 6> BYTES = {0x00, 0x01, 0x02, 0x7F, 0x80, 0xFF};
+constexpr std::array<std::uint64_t, 6> WORDS = {
+    0, 1, 2, 0x80, std::uint64_t{1} << 61, std::numeric_limits<std::uint64_t>::max(),
+};
 
 // The view of a row has the bytes that the row has in the pool, inside the file.
 void same_row(const std::string &what, Bytes file, const tikomuci::Got<Bytes> &view, std::optional<Bytes> row) {
@@ -226,7 +229,64 @@ void damaged_files() {
     expect(accepted > 500 && refused > 1000, "damaged files of both kinds");
 }
 
-// The limit is judged by the length alone: of a longer file no byte is touched.
+// A sheet and a pool at guards, into an output of just the image's size and into one that is a byte smaller. What is
+// written has this sheet and this pool again.
+Outcome written_between(Memories &memories, const std::string &what, const Wire &words, const Wire &bytes, Side side) {
+    const Bytes sheet = memories.sheet.lent(words, side);
+    const Bytes pool = memories.pool.lent(bytes, side);
+    const auto size = tikomuci::image(sheet);
+    Wire image(size.value);
+    const Outcome wanted = tikomuci::write(sheet, pool, image).outcome;
+    expect(wanted == size.outcome, what + ": written as measured");
+    for (const std::size_t less : {0, 1}) {
+        const std::size_t room = image.size() - std::min(image.size(), less);
+        const bool fits = room == image.size();
+        const Output place = memories.file.store(room, side);
+        const auto got = tikomuci::write(sheet, pool, place);
+        expect(got.outcome == (fits || !wanted ? wanted : FULL), what + ": the outcome");
+        expect(memories.file.holds(place, fits && wanted ? image : Wire{}), what + ": the image");
+    }
+    Wire sheet_again(words.size());
+    Wire pool_again(bytes.size());
+    if (wanted) {
+        expect(tikomuci::read(image, sheet_again, pool_again) && sheet_again == words && pool_again == bytes,
+               what + ": read back");
+    }
+    return wanted;
+}
+
+// Each sheet that is cut, and each word as other words.
+void handed_sheets() {
+    Memories memories;
+    const std::vector<std::uint64_t> whole = every_table_sheet();
+    const Wire words = little_endian(whole);
+    const Wire pool = every_table_pool();
+    for (const Side side : SIDES) {
+        expect(written_between(memories, "a sheet at a guard", words, pool, side) == Outcome{}, "a sheet at a guard");
+        for (std::size_t size = 0; size < words.size(); ++size) {
+            const Wire cut(words.begin(), words.begin() + static_cast<std::ptrdiff_t>(size));
+            const std::string what = "a sheet cut to " + std::to_string(size) + " bytes at a guard";
+            expect(written_between(memories, what, cut, pool, side).refusal == TIKOMUCI_REFUSAL_SHEET, what);
+        }
+    }
+    std::size_t accepted = 0;
+    std::size_t refused = 0;
+    for (std::size_t place = 0; place < whole.size(); ++place) {
+        for (const std::uint64_t word : WORDS) {
+            std::vector<std::uint64_t> sheet = whole;
+            sheet[place] = word;
+            const std::string what = "word " + std::to_string(place) + " as " + std::to_string(word) + " at a guard";
+            for (const Side side : SIDES) {
+                const Outcome outcome = written_between(memories, what, little_endian(sheet), pool, side);
+                expect(outcome || outcome == SHEET, what + ": accepted, or not well-formed");
+                ++(outcome ? accepted : refused);
+            }
+        }
+    }
+    expect(accepted > 150 && refused > 300, "changed sheets of both kinds");
+}
+
+// The limits are judged by the length alone: of a longer file, sheet or pool no byte is touched.
 void limits() {
     const std::size_t most = std::size_t{1} << 30;
     void *const memory = mmap(nullptr, most + 1, PROT_NONE, MAP_PRIVATE | MAP_ANONYMOUS | MAP_NORESERVE, -1, 0);
@@ -241,9 +301,16 @@ void limits() {
     expect(tikomuci::string(file, 0).outcome == limit, "no string of a file over the limit");
     expect(tikomuci::constant(file, 0).outcome == limit, "no constant of a file over the limit");
     expect(tikomuci::body(file, 0).outcome == limit, "no body of a file over the limit");
+    const std::size_t most_words = std::size_t{1} << 26;
+    const Outcome handed{TIKOMUCI_REFUSAL_LIMIT, TIKOMUCI_STAGE_CALL};
+    expect(tikomuci::image(file.first(8 * (most_words + 1))).outcome == handed, "a sheet over the limit, measured");
+    expect(tikomuci::write(file.first(8 * (most_words + 1)), {}, {}).outcome == handed, "a sheet over the limit");
+    expect(tikomuci::write({}, file, {}).outcome == handed, "a pool over the limit comes before its sheet");
     expect(mprotect(memory, most + 1, PROT_READ) == 0, "a file of zeros");
     expect(tikomuci::measure(file.first(most)).outcome == Outcome{TIKOMUCI_REFUSAL_MAGIC, TIKOMUCI_STAGE_HEADER},
            "a file at the limit is read");
+    expect(tikomuci::image(file.first(8 * most_words)).outcome == SHEET, "a sheet at the limit is judged");
+    expect(tikomuci::write({}, file.first(most), {}).outcome == SHEET, "a pool at the limit is taken");
     munmap(memory, most + 1);
 }
 
@@ -253,5 +320,6 @@ void guard_tests() {
     guards_hold();
     whole_files();
     damaged_files();
+    handed_sheets();
     limits();
 }

@@ -47,6 +47,8 @@ static const any_call calls[] = {
     (any_call)tikomuci_constant,
     (any_call)tikomuci_body,
     (any_call)tikomuci_section,
+    (any_call)tikomuci_image,
+    (any_call)tikomuci_write,
 };
 
 int header_calls(void);

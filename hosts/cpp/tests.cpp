@@ -14,6 +14,7 @@
 extern "C" int header_calls(void);
 void file_tests();
 void table_tests();
+void write_tests();
 void guard_tests();
 
 namespace {
@@ -248,7 +249,7 @@ void overlapping_spans() {
 }  // namespace
 
 int main() {
-    expect(header_calls() == 42, "every call of the header is in the archive");
+    expect(header_calls() == 44, "every call of the header is in the archive");
     marked_table();
     fixed_widths();
     varints();
@@ -258,6 +259,7 @@ int main() {
     section_views();
     file_tests();
     table_tests();
+    write_tests();
     guard_tests();
     null_pointers();
     overlapping_spans();

@@ -30,6 +30,8 @@ pub const SHORT: u64 = 2;
 pub const OVERLONG: u64 = 3;
 pub const PADDING: u64 = 5;
 pub const FULL: u64 = 11;
+pub const SHEET: u64 = 12;
+pub const START: u64 = 13;
 pub const ABSENT: u64 = 14;
 pub const LIMIT: u64 = 1;
 pub const MAGIC: u64 = 4;
@@ -113,6 +115,15 @@ extern "C" {
         pool: *mut u8,
         pool_len: usize,
     ) -> Answer;
+    fn tikomuci_image(sheet: *const u8, sheet_len: usize) -> Answer;
+    fn tikomuci_write(
+        sheet: *const u8,
+        sheet_len: usize,
+        pool: *const u8,
+        pool_len: usize,
+        out: *mut u8,
+        out_len: usize,
+    ) -> Answer;
 }
 
 /// How many words and pool bytes a file's tables take.
@@ -125,6 +136,18 @@ pub fn measure(file: &[u8]) -> Answer {
 pub fn read(file: &[u8], sheet: &mut [u8], pool: &mut [u8]) -> Answer {
     // SAFETY: as above, and both stores are ours alone until the call returns; `&mut` slices do not overlap.
     unsafe { tikomuci_read(file.as_ptr(), file.len(), sheet.as_mut_ptr(), sheet.len(), pool.as_mut_ptr(), pool.len()) }
+}
+
+/// How many bytes the file of a sheet takes. The sheet's words are lent as for `read`, and no pool is.
+pub fn image(sheet: &[u8]) -> Answer {
+    // SAFETY: as for `measure`.
+    unsafe { tikomuci_image(sheet.as_ptr(), sheet.len()) }
+}
+
+/// Writes a sheet and its pool as a file.
+pub fn write(sheet: &[u8], pool: &[u8], out: &mut [u8]) -> Answer {
+    // SAFETY: as above, and the output is ours alone until the call returns; a `&mut` slice overlaps no other.
+    unsafe { tikomuci_write(sheet.as_ptr(), sheet.len(), pool.as_ptr(), pool.len(), out.as_mut_ptr(), out.len()) }
 }
 
 writers! {

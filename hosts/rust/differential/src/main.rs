@@ -7,6 +7,7 @@ mod differences;
 mod files;
 mod floats;
 mod readers;
+mod sheets;
 mod tally;
 mod writers;
 
@@ -61,6 +62,7 @@ fn main() -> ExitCode {
     containers::compare(&mut random, &mut add);
     floats::compare(&mut random, &mut add);
     files::compare(&mut random, &mut add);
+    sheets::compare(&mut random, &mut add);
     differences::compare(&mut add);
     println!("{cases} cases compared, {differing} differ");
     if differing == 0 {

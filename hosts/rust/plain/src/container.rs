@@ -5,9 +5,9 @@ use std::ops::Range;
 use crate::cursor::Cursor;
 use crate::refusal::{stop, AtStage, Refusal, Stop, LIMIT, MAGIC};
 
-const MOST_BYTES: usize = 1 << 30;
-const MAGIC_BYTES: &[u8] = b"\x7FTileIR\0";
-const END_OF_BYTECODE: u8 = 0;
+pub const MOST_BYTES: usize = 1 << 30;
+pub const MAGIC_BYTES: &[u8] = b"\x7FTileIR\0";
+pub const END_OF_BYTECODE: u8 = 0;
 
 /// The version of the header; the order is that of its parts.
 #[derive(Debug, Clone, Copy, PartialEq, Eq, PartialOrd, Ord)]

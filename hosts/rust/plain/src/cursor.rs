@@ -3,7 +3,7 @@
 use crate::refusal::{stop, Detail, Stop, OVERLONG, PADDING, SHORT};
 
 /// The byte that fills paddings.
-const FILL: u8 = 0xCB;
+pub const FILL: u8 = 0xCB;
 
 /// A place in some data. Positions count from the data's start.
 pub struct Cursor<'a> {

@@ -8,7 +8,7 @@ use crate::refusal::{stop, Stop, BOUNDS, DEBUG_TAG};
 use crate::sheet::Table;
 
 /// How many varints follow a tag: Unknown, DICompileUnit, DIFile, DILexicalBlock, DILoc, DISubprogram, CallSite.
-const FIELDS: [usize; 7] = [0, 1, 2, 4, 4, 6, 2];
+pub const FIELDS: [usize; 7] = [0, 1, 2, 4, 4, 6, 2];
 
 /// The row of an attribute: its tag and six fields.
 fn attribute(data: &[u8]) -> Result<[u64; 7], Stop> {

@@ -1,19 +1,23 @@
-//! Reads Tile IR bytecode into the sheet and the pool of document 01, as one would write it with vectors in safe Rust.
-//! It shares no code with the library and none with decoder.rs: a second opinion, and the plain side of measurements.
+//! Reads Tile IR bytecode into the sheet and the pool of document 01, judges a handed sheet and writes it as a file, as
+//! one would write it with vectors in safe Rust. It shares no code with the library and none with decoder.rs: a second
+//! opinion, and the plain side of measurements.
 
 mod container;
 mod cursor;
 mod debug;
 mod entries;
+mod judge;
 mod refusal;
 mod rows;
 mod sheet;
 mod types;
+mod writer;
 
 use std::ops::Range;
 
 pub use container::{sections, Sections, Version};
 pub use refusal::{Detail, Refusal};
+pub use writer::{image, write};
 
 use refusal::{AtStage, ABSENT, STAGE_CALL};
 use sheet::Table;
@@ -72,6 +76,7 @@ pub fn body(file: &[u8], index: u64) -> Result<Range<usize>, Refusal> {
 #[cfg(test)]
 mod tests {
     use super::*;
+    use crate::refusal::SHEET;
 
     /// Document 01's whole case.
     #[test]
@@ -82,5 +87,19 @@ mod tests {
         assert_eq!(reading.pool, b"abc");
         assert_eq!([string(file, 0), string(file, 1)], [Ok(28..29), Ok(29..31)]);
         assert_eq!(string(file, 2).map_err(|refusal| (refusal.number, refusal.stage)), Err((ABSENT, STAGE_CALL)));
+    }
+    /// The same, written.
+    #[test]
+    fn the_whole_case_written() {
+        let file = b"\x7FTileIR\0\x0D\x01\0\0\x81\x0F\x04\xCB\x02\xCB\xCB\xCB\0\0\0\0\x01\0\0\0abc\0";
+        let words = [13, 1, 0, 0, 3, 19, 2, 21, 0, 21, 0, 21, 0, 21, 0, 21, 0, 21, 0, 1, 2];
+        let sheet: Vec<u8> = words.into_iter().flat_map(u64::to_le_bytes).collect();
+        assert_eq!(file.len(), 32);
+        assert_eq!(image(&sheet), Ok(32));
+        assert_eq!(write(&sheet, b"abc").as_deref(), Ok(&file[..]));
+        let refused = |result: Result<Vec<u8>, Refusal>| result.map_err(|refusal| (refusal.number, refusal.stage));
+        for (sheet, pool) in [(&sheet[..], &b"ab"[..]), (&sheet[..167], b"abc"), (&sheet[..160], b"abc")] {
+            assert_eq!(refused(write(sheet, pool)), Err((SHEET, STAGE_CALL)));
+        }
     }
 }

@@ -7,7 +7,7 @@ use crate::cursor::Cursor;
 use crate::refusal::{stop, Stop, HINTS, PRODUCER};
 use crate::sheet::Table;
 
-const HAS_OPTIMIZATION_HINTS: u8 = 4;
+pub const HAS_OPTIMIZATION_HINTS: u8 = 4;
 
 /// The index of the producer's string, one of `strings`.
 pub fn producer(file: &[u8], payload: Option<Range<usize>>, strings: u64) -> Result<Option<u64>, Stop> {

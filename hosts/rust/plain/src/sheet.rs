@@ -4,7 +4,7 @@ use std::ops::Range;
 
 use crate::container::Version;
 
-const CONTENTS_END: u64 = 19;
+pub const CONTENTS_END: u64 = 19;
 
 /// The rows of a table, one after the other, and how many they are.
 #[derive(Default)]

@@ -8,13 +8,13 @@ use crate::entries;
 use crate::refusal::{stop, Detail, Stop, TYPE_TAG};
 use crate::sheet::Table;
 
-const POINTER: u64 = 12;
-const TILE: u64 = 13;
-const TENSOR_VIEW: u64 = 14;
-const PARTITION_VIEW: u64 = 15;
-const FUNC: u64 = 16;
-const GATHER_SCATTER_VIEW: u64 = 20;
-const STRIDED_VIEW: u64 = 21;
+pub const POINTER: u64 = 12;
+pub const TILE: u64 = 13;
+pub const TENSOR_VIEW: u64 = 14;
+pub const PARTITION_VIEW: u64 = 15;
+pub const FUNC: u64 = 16;
+pub const GATHER_SCATTER_VIEW: u64 = 20;
+pub const STRIDED_VIEW: u64 = 21;
 
 /// An entry's fields and the row that they become.
 struct Row<'a> {

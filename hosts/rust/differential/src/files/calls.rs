@@ -39,7 +39,7 @@ impl Stores {
         boundary::read(file, &mut self.sheet[self.lead..], &mut self.pool[self.lead..])
     }
 
-    fn words(&self, count: usize) -> Vec<u64> {
+    pub fn words(&self, count: usize) -> Vec<u64> {
         let words = self.sheet[self.lead..].chunks_exact(8).take(count);
         words.map(|eight| u64::from_le_bytes(eight.try_into().expect("a chunk has eight bytes"))).collect()
     }
@@ -49,7 +49,7 @@ impl Stores {
     }
 
     /// Whether nothing changed but so many bytes of the sheet and of the pool.
-    fn untouched_behind(&self, sheet: usize, pool: usize) -> bool {
+    pub fn untouched_behind(&self, sheet: usize, pool: usize) -> bool {
         let stayed = |store: &[u8], size: usize| {
             let (before, after) = (&store[..self.lead], &store[self.lead + size..]);
             before.iter().chain(after).all(|&byte| byte == UNTOUCHED)

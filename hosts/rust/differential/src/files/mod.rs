@@ -19,6 +19,11 @@ mod types;
 mod wire;
 
 pub use answers::write as write_answers;
+pub use calls::Stores;
+pub use coverage::Coverage;
+pub use dice::Dice;
+pub use judge::{ask, Rust};
+pub use made::{make, Made};
 pub use smallest::{all as smallest, invalid_utf8};
 
 use dump::Present;
@@ -28,10 +33,6 @@ use crate::tally::{Random, Tally};
 use appetite::{appetite, Appetite};
 use calls::{Calls, Tables};
 use counts::Counts;
-use coverage::Coverage;
-use dice::Dice;
-use judge::{ask, Rust};
-use made::Made;
 
 const FUNC: u64 = 2;
 const DEBUG: u64 = 3;
@@ -44,7 +45,7 @@ const MOST_TEXT: usize = 1 << 18;
 const MOST_SHOWN: usize = 1 << 10;
 
 /// A file in hex; of a long one its first bytes.
-fn shown(file: &[u8]) -> String {
+pub fn shown(file: &[u8]) -> String {
     let hex: String = file.iter().take(MOST_SHOWN).map(|byte| format!("{byte:02X}")).collect();
     if file.len() > MOST_SHOWN {
         format!("{hex}.. ({} bytes)", file.len())
@@ -54,7 +55,7 @@ fn shown(file: &[u8]) -> String {
 }
 
 /// decoder.rs's text, from what the library says of a file that it accepts.
-fn text(file: &[u8], (words, pool): &Tables) -> Option<String> {
+pub fn text(file: &[u8], (words, pool): &Tables) -> Option<String> {
     let present = |id| boundary::section(file, id).refusal == 0;
     dump::text(words, pool, Present { func: present(FUNC), debug: present(DEBUG) }, MOST_TEXT).ok()
 }
@@ -146,7 +147,7 @@ impl Run {
 }
 
 /// How many rows the tables of file `i` may have: few, and now and then many.
-fn most_rows(dice: &mut Dice, i: u64) -> u64 {
+pub fn most_rows(dice: &mut Dice, i: u64) -> u64 {
     match i % 4000 {
         0 => 700,
         i if i % 100 == 0 => 16,
