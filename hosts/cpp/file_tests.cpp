@@ -218,12 +218,7 @@ void null_spans() {
 }
 
 bool thrown(Bytes file, Output sheet, Output pool) {
-    try {
-        static_cast<void>(tikomuci::read(file, sheet, pool));
-    } catch (const std::invalid_argument &) {
-        return true;
-    }
-    return false;
+    return overlap_refused([=] { static_cast<void>(tikomuci::read(file, sheet, pool)); });
 }
 
 void overlapping_stores() {

@@ -265,12 +265,7 @@ void null_spans() {
 }
 
 bool thrown(Bytes sheet, Bytes pool, Output out) {
-    try {
-        static_cast<void>(tikomuci::write(sheet, pool, out));
-    } catch (const std::invalid_argument &) {
-        return true;
-    }
-    return false;
+    return overlap_refused([=] { static_cast<void>(tikomuci::write(sheet, pool, out)); });
 }
 
 void overlapping_spans() {

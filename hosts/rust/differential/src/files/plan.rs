@@ -1,22 +1,10 @@
 //! A file before its bytes are laid down: a version and sections.
 
 use oracle::bytecode::MAGIC;
+pub use plain::Version;
 
 use super::dice::{Dice, Freedom};
 use super::wire::Wire;
-
-#[derive(Clone, Copy)]
-pub struct Version {
-    pub major: u8,
-    pub minor: u8,
-    pub tag: u16,
-}
-
-impl Version {
-    pub fn since(self, major: u8, minor: u8) -> bool {
-        (self.major, self.minor) >= (major, minor)
-    }
-}
 
 /// Versions at which a class begins, and their neighbours.
 const VERSIONS: [(u8, u8, u16); 12] = [
