@@ -1,7 +1,7 @@
 # make demo: prove, build the library, and see it used from C++.
 # make test: what the gate runs: everything is proved from nothing, and the tests of the hosts.
 # make command: build/tikomuci, which shows and checks files.
-# make bench: our calls beside encoding.rs and decoder.rs.
+# make bench: our calls beside encoding.rs, decoder.rs and a plain reader and writer in Rust.
 # make answers: writes the list of decoder.rs's answers that the reader tests replay.
 
 SHELL := bash
@@ -51,10 +51,11 @@ verdict:
 
 library:
 	@mkdir -p build
-	rt staticlib tikomuci >build/staticlib.log 2>&1 || { cat build/staticlib.log; exit 1; }
+	tools/static-library >build/staticlib.log 2>&1 || { cat build/staticlib.log; exit 1; }
 
 cpp-tests: build/tests build/tikomuci
 	$(CXX) -std=c++11 $(WARNINGS) -fsyntax-only -x c++ include/tikomuci.h
+	$(CXX) $(CXXFLAGS) -fno-exceptions -fsyntax-only -x c++ include/tikomuci_tables.hpp
 	$(RUN) build/tests
 	hosts/cpp/command/tests $(RUN) build/tikomuci
 
@@ -73,7 +74,7 @@ endif
 
 bench: library
 ifneq ($(HAS_RUST),)
-	$(CARGO) run $(IN_RUST) --release --package bench
+	$(NATIVE_CARGO) run $(IN_RUST) --release --package bench
 else
 	@echo "no Rust source at $(RUST_SOURCE): there is nothing to measure against" >&2; exit 1
 endif
@@ -89,7 +90,7 @@ lint:
 	rt fmt --check
 	clang-format --dry-run -Werror include/* hosts/cpp/*.c hosts/cpp/*.?pp hosts/cpp/command/*.?pp
 	cargo fmt --manifest-path hosts/rust/Cargo.toml --all --check
-	env -u RUSTC -u CARGO_BUILD_TARGET $(CARGO) clippy $(IN_RUST) --workspace --all-targets -- -D warnings
+	$(NATIVE_CARGO) clippy $(IN_RUST) --workspace --all-targets -- -D warnings
 
 clean:
 	rm -rf target build

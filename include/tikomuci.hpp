@@ -2,6 +2,7 @@
 //
 // A Writer and a Reader keep the place between calls, as EncodingWriter and Reader do in the Rust that they follow. A
 // refused call leaves the place and the bytes as they were. Answers are [[nodiscard]]: no refusal is lost by silence.
+// Nothing here throws.
 #ifndef TIKOMUCI_HPP
 #define TIKOMUCI_HPP
 
@@ -11,7 +12,6 @@
 #include <cstdint>
 #include <functional>
 #include <span>
-#include <stdexcept>
 #include <string_view>
 
 #include "tikomuci.h"
@@ -79,14 +79,21 @@ inline constexpr std::array<Named, 11> STAGES = {{
     {"call", "behind the file, or where no file is read"},
 }};
 
+/// The one refusal of this header's own, far from the library's: lent spans overlap, and no call was made.
+inline constexpr std::uint64_t OVERLAP = 1000;
+
 /// The name and the line of a number; a number that no call answers has others.
 template <std::size_t Count>
 constexpr Named named(const std::array<Named, Count> &names, std::uint64_t number) {
     return number < Count ? names[number] : Named{"unknown", "no call answers this number"};
 }
 
-constexpr std::string_view refusal_name(std::uint64_t refusal) { return named(REFUSALS, refusal).name; }
-constexpr std::string_view refusal_text(std::uint64_t refusal) { return named(REFUSALS, refusal).text; }
+constexpr Named refusal(std::uint64_t number) {
+    return number == OVERLAP ? Named{"overlap", "two lent spans overlap"} : named(REFUSALS, number);
+}
+
+constexpr std::string_view refusal_name(std::uint64_t number) { return refusal(number).name; }
+constexpr std::string_view refusal_text(std::uint64_t number) { return refusal(number).text; }
 constexpr std::string_view stage_name(std::uint64_t stage) { return named(STAGES, stage).name; }
 constexpr std::string_view stage_text(std::uint64_t stage) { return named(STAGES, stage).text; }
 
@@ -96,12 +103,8 @@ inline bool overlap(Bytes a, Bytes b) {
     return !a.empty() && !b.empty() && before(a.data(), b.data() + b.size()) && before(b.data(), a.data() + a.size());
 }
 
-/// Throws std::invalid_argument if two lent spans overlap: no refusal means it, and the fault is the program's.
-inline void apart(Bytes a, Bytes b) {
-    if (overlap(a, b)) {
-        throw std::invalid_argument("tikomuci: the lent spans overlap");
-    }
-}
+/// The outcome where lent spans overlap.
+inline constexpr Outcome OVERLAPPING = {OVERLAP, TIKOMUCI_STAGE_CALL};
 
 template <typename Value>
 Bytes bytes_of(std::span<const Value> values) {
@@ -128,21 +131,10 @@ class Writer {
     Outcome ap_float_f8e4m3fn(double value) { return moved(call(tikomuci_write_ap_float_f8e4m3fn, bits(value))); }
     Outcome ap_float_f8e5m2(double value) { return moved(call(tikomuci_write_ap_float_f8e5m2, bits(value))); }
 
-    /// Throws std::invalid_argument if `data` overlaps the output, as the two calls below do.
-    Outcome bytes(Bytes data) {
-        apart(data, out_);
-        return moved(call(tikomuci_write_bytes, data.data(), data.size()));
-    }
-
-    Outcome le_var_size(std::span<const std::int32_t> values) {
-        apart(bytes_of(values), out_);
-        return moved(call(tikomuci_write_le_var_size_i32, values.data(), values.size()));
-    }
-
-    Outcome le_var_size(std::span<const std::int64_t> values) {
-        apart(bytes_of(values), out_);
-        return moved(call(tikomuci_write_le_var_size_i64, values.data(), values.size()));
-    }
+    /// OVERLAP if `data` overlaps the output, as of the two calls below.
+    Outcome bytes(Bytes data) { return lent(tikomuci_write_bytes, data); }
+    Outcome le_var_size(std::span<const std::int32_t> values) { return lent(tikomuci_write_le_var_size_i32, values); }
+    Outcome le_var_size(std::span<const std::int64_t> values) { return lent(tikomuci_write_le_var_size_i64, values); }
 
     Outcome align_to(std::uint64_t alignment) {
         const tikomuci_answer answer = call(tikomuci_align_to, required_alignment_, alignment);
@@ -161,6 +153,14 @@ class Writer {
     template <typename Call, typename... Values>
     tikomuci_answer call(Call function, Values... values) {
         return function(out_.data(), out_.size(), at_, values...);
+    }
+
+    template <typename Call, typename Value>
+    Outcome lent(Call function, std::span<const Value> values) {
+        if (overlap(bytes_of(values), out_)) {
+            return OVERLAPPING;
+        }
+        return moved(call(function, values.data(), values.size()));
     }
 
     Outcome moved(const tikomuci_answer &answer) {
@@ -271,12 +271,12 @@ inline Got<Bytes> view_of(Bytes file, const tikomuci_answer &answer) {
 /// How large the stores have to be for the tables of a file, which is judged as a whole.
 [[nodiscard]] inline Got<Size> measure(Bytes file) { return size_of(tikomuci_measure(file.data(), file.size())); }
 
-/// Reads the tables of a file into lent stores; 11 if one is too small. The sheet's words are little-endian, wherever
-/// they stand. Throws std::invalid_argument if two of the spans overlap.
+/// Reads the tables of a file into lent stores; 11 if one is too small, OVERLAP if two of the spans overlap. The
+/// sheet's words are little-endian, wherever they stand.
 [[nodiscard]] inline Got<Size> read(Bytes file, Output sheet, Output pool) {
-    apart(file, sheet);
-    apart(file, pool);
-    apart(sheet, pool);
+    if (overlap(file, sheet) || overlap(file, pool) || overlap(sheet, pool)) {
+        return {OVERLAPPING, {}};
+    }
     return size_of(tikomuci_read(file.data(), file.size(), sheet.data(), sheet.size(), pool.data(), pool.size()));
 }
 
@@ -306,12 +306,12 @@ inline Got<std::uint64_t> image_of(const tikomuci_answer &answer) { return {outc
     return image_of(tikomuci_image(sheet.data(), sheet.size()));
 }
 
-/// Writes the file of a sheet and its pool into a lent output; 11 if that is too small. The sheet's words are
-/// little-endian, wherever they stand. Throws std::invalid_argument if two of the spans overlap.
+/// Writes the file of a sheet and its pool into a lent output; 11 if that is too small, OVERLAP if two of the spans
+/// overlap. The sheet's words are little-endian, wherever they stand.
 [[nodiscard]] inline Got<std::uint64_t> write(Bytes sheet, Bytes pool, Output out) {
-    apart(sheet, pool);
-    apart(sheet, out);
-    apart(pool, out);
+    if (overlap(sheet, pool) || overlap(sheet, out) || overlap(pool, out)) {
+        return {OVERLAPPING, {}};
+    }
     return image_of(tikomuci_write(sheet.data(), sheet.size(), pool.data(), pool.size(), out.data(), out.size()));
 }
 

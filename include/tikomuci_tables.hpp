@@ -559,8 +559,8 @@ struct Tables {
     ~Tables() = default;
 };
 
-/// Reads the tables of a file into stores that are as large as they have to be. It throws where memory is gone, and
-/// nothing else: refusals are in the outcome.
+/// Reads the tables of a file into stores that are as large as they have to be. Refusals are in the outcome; only a
+/// std::vector that gets no memory may throw.
 [[nodiscard]] inline Got<Tables> read(Bytes file) {
     const Got<Size> size = measure(file);
     if (!size) {

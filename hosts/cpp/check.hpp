@@ -4,7 +4,6 @@
 
 #include <cstdint>
 #include <cstdio>
-#include <stdexcept>
 #include <string>
 #include <vector>
 
@@ -27,17 +26,6 @@ inline void expect(bool holds, const std::string &what) {
         ++failed;
         std::printf("FAILED: %s\n", what.c_str());
     }
-}
-
-// Whether a call is refused by the header because its spans overlap.
-template <class Call>
-bool overlap_refused(const Call &call) {
-    try {
-        call();
-    } catch (const std::invalid_argument &) {
-        return true;
-    }
-    return false;
 }
 
 inline Wire nine(std::uint8_t byte, std::uint8_t last) {

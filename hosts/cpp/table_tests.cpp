@@ -22,6 +22,7 @@ using WordList = std::vector<std::uint64_t>;
 
 constexpr std::uint64_t FAR = std::numeric_limits<std::uint64_t>::max();
 
+static_assert(tikomuci::refusal_name(tikomuci::OVERLAP) == "overlap");
 static_assert(tikomuci::refusal_name(0) == "accepted");
 static_assert(tikomuci::refusal_name(TIKOMUCI_REFUSAL_LIMIT) == "limit");
 static_assert(tikomuci::refusal_name(TIKOMUCI_REFUSAL_SHORT) == "short");

@@ -235,8 +235,10 @@ void null_pointers() {
 
 void overlapping_spans() {
     Wire memory(16, 0);
-    const auto sharing = [&] { static_cast<void>(Writer(Output(memory).first(8)).bytes(Bytes(memory).subspan(7, 2))); };
-    expect(overlap_refused(sharing), "spans that share a byte");
+    const Wire kept = memory;
+    Writer writer(Output(memory).first(8));
+    expect(writer.bytes(Bytes(memory).subspan(7, 2)) == tikomuci::OVERLAPPING, "spans that share a byte");
+    expect(writer.tell() == 0 && memory == kept, "spans that share a byte stay");
     expect(static_cast<bool>(Writer(Output(memory).first(8)).bytes(Bytes(memory).subspan(8, 2))),
            "spans that touch and do not overlap");
 }

@@ -264,8 +264,8 @@ void null_spans() {
            "no pool where it is empty");
 }
 
-bool thrown(Bytes sheet, Bytes pool, Output out) {
-    return overlap_refused([=] { static_cast<void>(tikomuci::write(sheet, pool, out)); });
+bool overlapping(Bytes sheet, Bytes pool, Output out) {
+    return tikomuci::write(sheet, pool, out).outcome == tikomuci::OVERLAPPING;
 }
 
 void overlapping_spans() {
@@ -274,12 +274,13 @@ void overlapping_spans() {
     memory.resize(168 + 3 + 32, CANARY);
     const Wire kept = memory;
     const Output all(memory);
-    expect(thrown(all.first(168), all.subspan(167, 3), all.subspan(171, 32)), "a pool over the sheet");
-    expect(thrown(all.first(168), all.subspan(168, 3), all.subspan(136, 33)), "an output over the sheet and the pool");
-    expect(thrown(all.first(168), {}, all.subspan(167, 32)), "an output over the sheet");
-    expect(thrown(all.first(168), all.subspan(168, 3), all.subspan(170, 32)), "an output over the pool");
+    expect(overlapping(all.first(168), all.subspan(167, 3), all.subspan(171, 32)), "a pool over the sheet");
+    expect(overlapping(all.first(168), all.subspan(168, 3), all.subspan(136, 33)),
+           "an output over the sheet and the pool");
+    expect(overlapping(all.first(168), {}, all.subspan(167, 32)), "an output over the sheet");
+    expect(overlapping(all.first(168), all.subspan(168, 3), all.subspan(170, 32)), "an output over the pool");
     expect(memory == kept, "spans that overlap stay");
-    expect(!thrown(all.first(168), all.subspan(168, 3), all.subspan(171, 32)), "spans that touch");
+    expect(!overlapping(all.first(168), all.subspan(168, 3), all.subspan(171, 32)), "spans that touch");
     expect(Wire(memory.begin() + 171, memory.end()) == whole_case(), "spans that touch are written");
 }
 

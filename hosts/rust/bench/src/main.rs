@@ -1,47 +1,46 @@
-//! Our calls beside encoding.rs and the reader of decoder.rs, in one run, as ratios of times. See `about` for what is
-//! timed. A ratio counts only where the library runs on the processor that it is compiled for.
+//! Our calls beside encoding.rs, decoder.rs and a plain reader and writer in safe Rust, in one run, as ratios of times.
+//! See `about` for what is timed.
 
-mod cases;
+mod files;
+mod inputs;
+mod numbers;
 mod timing;
 
 use timing::Row;
 
 fn about() {
-    println!("Each row is the median of {} rounds, and a round times both sides one after the other.", timing::ROUNDS);
-    println!("Ours: a call of the archive for each number, array or padding, bounds test included, as C++ calls it.");
-    println!("Rust: `EncodingWriter` with its capacity reserved, and decoder.rs's `Reader`, inlined as rustc likes.");
-    println!("Both sides work on memory that was touched before. Times are nanoseconds for each call.");
+    println!("Compiled for {}. Each row is the median of 7 to {} rounds;", std::env::consts::ARCH, timing::MOST_ROUNDS);
+    println!("a round times both sides one after the other, on memory that was touched before.");
+    println!("Ours: a call of the archive, as C++ calls it; times are for each call.");
+    println!("`called`: encoding.rs's EncodingWriter or decoder.rs's Reader behind a call that answers the same;");
+    println!("`inlined`: the same, inlined into the loop that times it. Capacities are reserved.");
     println!("Arrays have 1,000 numbers; reading one ends with the numbers in a vector on both sides.");
 }
 
-/// The goal of a row and whether it is met; a dash where there is none, or where the times do not count.
-fn goal(row: &Row, counts: bool) -> (String, &'static str) {
-    let met = match row.goal {
-        Some(goal) if counts => ["no", "yes"][usize::from(row.ours / row.rust <= goal)],
-        _ => "-",
+/// A time with three digits or so, in a unit that suits it.
+fn shown(nanoseconds: f64) -> String {
+    let (scale, unit) = match nanoseconds {
+        n if n < 1e3 => (1.0, "ns"),
+        n if n < 1e6 => (1e3, "µs"),
+        _ => (1e6, "ms"),
     };
-    (row.goal.map_or("-".to_owned(), |goal| format!("{goal:.1}")), met)
+    format!("{:.2} {unit}", nanoseconds / scale)
 }
 
-fn table(rows: &[Row], counts: bool) {
-    println!("\n| what | ours | Rust | ours / Rust | goal | met |");
-    println!("|---|---:|---:|---:|---:|---|");
+fn table(rows: &[Row]) {
+    println!("\n| what | ours | against | theirs | ours / theirs | goal | met |");
+    println!("|---|---:|---|---:|---:|---:|---|");
     for row in rows {
-        let (goal, met) = goal(row, counts);
-        let ratio = row.ours / row.rust;
-        println!("| {} | {:.2} | {:.2} | {ratio:.2} | {goal} | {met} |", row.what, row.ours, row.rust);
+        let (what, against, ratio) = (row.what, row.against, row.ratio());
+        let goal = row.goal.map_or("-".to_owned(), |goal| goal.to_string());
+        let met = row.goal.map_or("-", |goal| ["no", "yes"][usize::from(ratio <= goal)]);
+        println!("| {what} | {} | {against} | {} | {ratio:.2} | {goal} | {met} |", shown(row.ours), shown(row.theirs));
     }
 }
 
 fn main() {
     about();
-    let emulated = std::env::var_os("TIKOMUCI_EMULATED").is_some();
-    let mut rows = cases::varints();
-    rows.extend(cases::arrays());
-    rows.extend(cases::padding());
-    rows.extend(cases::floats());
-    table(&rows, !emulated);
-    if emulated {
-        println!("\nThis run was EMULATED: its times say nothing of the library on x86-64, so no goal is judged.");
-    }
+    let rows = [numbers::varints(), numbers::arrays(), numbers::padding(), numbers::floats()].concat();
+    table(&rows);
+    table(&files::all());
 }

@@ -44,8 +44,10 @@ pub fn read(file: &[u8]) -> Result<Reading, Refusal> {
     let (functions, bodies) = rows::functions(file, payload(2)).at_stage(8)?;
     let (attributes, lists) = debug::tables(file, payload(3)).at_stage(9)?;
 
-    let pool: Vec<u8> =
-        strings.iter().chain(&constants).chain(&bodies).flat_map(|place| &file[place.clone()]).copied().collect();
+    let mut pool = Vec::new();
+    for place in strings.iter().chain(&constants).chain(&bodies) {
+        pool.extend_from_slice(&file[place.clone()]);
+    }
     let tables =
         [Table::of_lengths(&strings), types, Table::of_lengths(&constants), globals, functions, attributes, lists];
     Ok(Reading { words: sheet::words(version, producer, &pool, &tables), pool, strings, constants, bodies })

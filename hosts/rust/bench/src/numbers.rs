@@ -1,4 +1,5 @@
-//! What is timed. Each case does the same work on both sides and leaves a number that tells them apart if it is not.
+//! Numbers one by one, arrays and padding. Each case does the same work on both sides and leaves a number that tells
+//! them apart if it is not.
 
 use boundary::Answer;
 use oracle::bytecode::decoder::window::Reader;
@@ -29,9 +30,32 @@ fn trace(written: &[u8]) -> u64 {
     tail << 32 | written.len() as u64
 }
 
+const INLINED: &str = "inlined";
+const CALLED: &str = "called";
+
+/// encoding.rs and decoder.rs behind a call with the answer that the archive's calls have.
+mod called {
+    use super::{Answer, EncodingWriter, Reader};
+
+    #[inline(never)]
+    pub extern "C" fn write_varint(writer: &mut EncodingWriter, value: u64) -> Answer {
+        writer.write_varint(value);
+        Answer::accepted(writer.tell() as u64, 0)
+    }
+
+    #[inline(never)]
+    pub extern "C" fn read_varint(data: &&[u8], at: u64) -> Answer {
+        let mut reader = Reader::at(data, at as usize);
+        match reader.read_varint() {
+            Ok(value) => Answer::accepted(value, reader.pos() as u64),
+            Err(_) => Answer::refused(boundary::SHORT),
+        }
+    }
+}
+
 /// Times writing: `ours` writes all into an output and gives the end, `rust` into an emptied writer.
 fn writing(
-    what: &'static str,
+    what: (&'static str, &'static str),
     goal: Option<f64>,
     calls: usize,
     capacity: usize,
@@ -57,37 +81,49 @@ fn writing(
     )
 }
 
-fn write_varints(what: &'static str, values: &[u64]) -> Row {
+fn write_varints(what: &'static str, values: &[u64]) -> [Row; 2] {
     let ours = |out: &mut [u8]| values.iter().fold(0, |at, &value| boundary::write_varint(out, at, value).first);
-    let rust = |writer: &mut EncodingWriter| values.iter().for_each(|&value| writer.write_varint(value));
-    writing(what, Some(1.0), values.len(), values.len() * 10, ours, rust)
+    let called = |writer: &mut EncodingWriter| {
+        let refusals = values.iter().map(|&value| called::write_varint(writer, value).refusal).sum::<u64>();
+        assert_eq!(refusals, 0, "encoding.rs refuses nothing");
+    };
+    let inlined = |writer: &mut EncodingWriter| values.iter().for_each(|&value| writer.write_varint(value));
+    let (calls, capacity) = (values.len(), values.len() * 10);
+    [
+        writing((what, CALLED), Some(1.0), calls, capacity, ours, called),
+        writing((what, INLINED), None, calls, capacity, ours, inlined),
+    ]
 }
 
-fn read_varints(what: &'static str, values: &[u64]) -> Row {
+/// Reads one number behind the other, and adds them up.
+fn sum_of(count: usize, read: impl Fn(u64) -> Answer) -> u64 {
+    let (mut at, mut sum) = (0, 0u64);
+    for _ in 0..count {
+        let answer = read(at);
+        sum = sum.wrapping_add(answer.first).wrapping_add(answer.refusal);
+        at = answer.second;
+    }
+    sum
+}
+
+fn read_varints(what: &'static str, values: &[u64]) -> [Row; 2] {
     let mut writer = EncodingWriter::new();
     values.iter().for_each(|&value| writer.write_varint(value));
-    let data = writer.into_bytes();
-    let ours = || {
-        let (mut at, mut sum) = (0, 0u64);
-        for _ in 0..values.len() {
-            let answer = boundary::read_varint(&data, at);
-            sum = sum.wrapping_add(answer.first).wrapping_add(answer.refusal);
-            at = answer.second;
-        }
-        sum
-    };
-    let rust = || {
+    let (data, calls) = (writer.into_bytes(), values.len());
+    let ours = || sum_of(calls, |at| boundary::read_varint(&data, at));
+    let called = || sum_of(calls, |at| called::read_varint(&&data[..], at));
+    let inlined = || {
         let mut reader = Reader::at(&data, 0);
-        (0..values.len()).fold(0, |sum: u64, _| sum.wrapping_add(reader.read_varint().unwrap_or(u64::MAX)))
+        (0..calls).fold(0, |sum: u64, _| sum.wrapping_add(reader.read_varint().unwrap_or(u64::MAX)))
     };
-    row(what, Some(1.0), values.len(), ours, rust)
+    [row((what, CALLED), Some(1.0), calls, ours, called), row((what, INLINED), None, calls, ours, inlined)]
 }
 
 pub fn varints() -> Vec<Row> {
     let one_byte: Vec<u64> = words(NUMBERS).into_iter().map(|word| word % 128).collect();
     let any: Vec<u64> = words(NUMBERS).into_iter().map(|word| (word | 1 << 63) >> (word % 64)).collect();
     let longest: Vec<u64> = words(NUMBERS).into_iter().map(|word| word | 1 << 63).collect();
-    vec![
+    [
         write_varints("varint encode, one byte", &one_byte),
         write_varints("varint encode, 1 to 10 bytes", &any),
         write_varints("varint encode, ten bytes", &longest),
@@ -95,6 +131,7 @@ pub fn varints() -> Vec<Row> {
         read_varints("varint decode, 1 to 10 bytes", &any),
         read_varints("varint decode, ten bytes", &longest),
     ]
+    .concat()
 }
 
 pub fn arrays() -> Vec<Row> {
@@ -102,7 +139,7 @@ pub fn arrays() -> Vec<Row> {
     let wide: Vec<i64> = words(LENGTH).into_iter().map(|word| word as i64).collect();
     let capacity = ARRAYS * (8 * LENGTH + 10);
     let write_narrow = writing(
-        "i32 array written",
+        ("i32 array written", INLINED),
         Some(1.1),
         ARRAYS,
         capacity,
@@ -110,7 +147,7 @@ pub fn arrays() -> Vec<Row> {
         |writer| (0..ARRAYS).for_each(|_| writer.write_le_var_size_i32(&narrow)),
     );
     let write_wide = writing(
-        "i64 array written",
+        ("i64 array written", INLINED),
         Some(1.1),
         ARRAYS,
         capacity,
@@ -147,7 +184,7 @@ fn read_array<const WIDTH: usize, T: Copy + PartialEq>(
     let data = writer.into_bytes();
     let (mut our_numbers, mut rust_numbers) = (Vec::with_capacity(LENGTH), Vec::with_capacity(LENGTH));
     let measured = row(
-        what,
+        (what, INLINED),
         Some(1.1),
         ARRAYS,
         || {
@@ -188,7 +225,7 @@ pub fn padding() -> Vec<Row> {
             writer.align_to(16);
         });
     };
-    let write = writing("a byte and 15 of padding written", None, NUMBERS, 16 * NUMBERS, ours, rust);
+    let write = writing(("a byte and 15 of padding written", INLINED), None, NUMBERS, 16 * NUMBERS, ours, rust);
     vec![write, skip_padding()]
 }
 
@@ -213,7 +250,7 @@ fn skip_padding() -> Row {
         }
         reader.pos() as u64
     };
-    row("a byte and 15 of padding read", None, NUMBERS, ours, rust)
+    row(("a byte and 15 of padding read", INLINED), None, NUMBERS, ours, rust)
 }
 
 /// Values in the formats' ranges, one byte written for each.
@@ -235,5 +272,5 @@ fn write_floats(
     let ours = |out: &mut [u8]| bits.iter().fold(0, |at, &b| write(out, at, b).first);
     let kind = Type::Scalar(scalar);
     let rust = |writer: &mut EncodingWriter| bits.iter().for_each(|&b| writer.write_ap_float(f64::from_bits(b), &kind));
-    writing(what, Some(1.0), bits.len(), bits.len(), ours, rust)
+    writing((what, INLINED), Some(1.0), bits.len(), bits.len(), ours, rust)
 }
