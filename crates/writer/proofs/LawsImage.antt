@@ -25,7 +25,7 @@ use Rattle.writer.specs.Sections.{Holds, partIn, PayloadPut}
 use Rattle.writer.specs.Images.{isSome, ClassOf, Presence, Opens, AlignmentPut, sectionBytes, SectionPut, HeaderPut, ImagePut}
 use Rattle.writer.specs.declared.sections.Section.{Section}
 use Rattle.writer.specs.declared.sections.Section.the-variants as section
-use Rattle.writer.proofs.LawsPut.{no-length, puts-then, wrote-nil, wrote-then, wrote-as}
+use Rattle.writer.proofs.LawsPut.{no-length, puts-then, wrote-nil, wrote-then, wrote-as, wrote-nowhere}
 use Rattle.writer.proofs.LawsTables.{lent-on}
 use Rattle.writer.proofs.LawsSheet.{
   strings-placed,
@@ -169,6 +169,19 @@ module _ {k : Section} {c : VersionClass} {s pool : List ℕ} {at n1 n2 n3 next 
       let g3 = p3 .place in
       let p4 = z .each t ec (holds-on (holds-on (holds-on h p1) p2) p3) (omega arith) in
       subst (λ bs. Puts bs at out out' next) (sym q) (puts-then p1 (puts-then p2 (puts-then p3 p4)))
+
+-- A payload that was measured, counted once more in an output of no bytes.
+pub payload-counted : {k : Section} {c : VersionClass} {s pool : List ℕ} (size at next : ℕ) (out : List ℕ) →
+    PayloadPut k c s pool 0 [] [] size → length out ≡ 0 → next ≡ (at + size) % 2 ^ 64 → PayloadPut k c s pool at out out next
+payload-counted {k} {s = s} {pool} size at next out x e p =
+    record {
+      each =
+          λ t ec h f.
+          let o = no-length out e in
+          let f' : 0 + length (partIn k t .payload) < 2 ^ 64 = omega arith in
+          let d = x .each t ec (subst (λ l. Holds t s pool l) o h) f' .place in
+          wrote-nowhere (partIn k t .payload) size at next out (omega (arith, d)) e p .puts f;
+    }
 
 -- A section that is written ..
 pub section-put : {k : Section} {c : VersionClass} {s pool : List ℕ} {at n1 n2 n3 next size b0 : ℕ} {there : Bool} {out kept m1 m2 m3 out' : List ℕ} →

@@ -147,6 +147,11 @@ lies-taken {l} {i} part h =
 pub put-none : (at : ℕ) (bs : List ℕ) → put [] at bs ≡ []
 put-none at bs = no-length (put [] at bs) (length-put [] at bs)
 
+-- What would be put into it is counted.
+pub wrote-nowhere : (bs : List ℕ) (n at next : ℕ) (out : List ℕ) → length bs ≡ n → length out ≡ 0 → next ≡ (at + n) % 2 ^ 64 →
+    Wrote bs at out out next
+wrote-nowhere bs n at next out l e p = wrote-run bs n at next out out l (rw (no-length out e, put-none)) p
+
 -- A run of the pool was put if it has room ..
 pub run-put : (pool : List ℕ) (i len at next : ℕ) (out out' : List ℕ) → out' ≡ put out at (take (i + len - i) (drop i pool)) →
     next ≡ (at + len) % 2 ^ 64 → RunPut pool i len at out out' next

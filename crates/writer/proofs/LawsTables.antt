@@ -1,8 +1,8 @@
 -- A count, padding, starts and rows, one after the other, are an offset table. Assumes nothing.
 use mathlib.Core.Path.{_≡_, refl, sym, ap, _∙_, subst}
 use mathlib.Core.Logic.{inl, inr}
-use Prim.Native.Nat.{ℕ, _+_, _-_, _%_, _^_, _≤_, _<_}
-use native.Mathlib.Nat.{zero-add, mod-eq-of-lt}
+use Prim.Native.Nat.{ℕ, suc, _+_, _-_, _*_, _%_, _^_, _≤_, _<_}
+use native.Mathlib.Nat.{zero-add, zero-mul, suc-mul, mod-eq-of-lt}
 use native.Mathlib.Omega.{arith}
 use mathlib.Core.List.{List, [], _∷_, _++_, map, append-assoc}
 use lib.ListN.{length, replicate, length-append, length-map}
@@ -14,6 +14,7 @@ use Rattle.enums.specs.Container.{P}
 use Rattle.enums.specs.declared.VersionClass.{VersionClass}
 use Rattle.encoding.specs.Varint.{spelling}
 use Rattle.encoding.specs.Out.{flat}
+use Rattle.encoding.proofs.LawsArray.{length-flat}
 use Rattle.format.specs.Sound.{All}
 use Rattle.format.specs.Image.{paddedNumbers, offsetTable}
 use Rattle.sheet.specs.Store.{wordsIn}
@@ -25,7 +26,7 @@ use Rattle.writer.specs.declared.fields.Pen.{Pen}
 use Rattle.writer.specs.declared.rows.Row.{Row}
 use Rattle.writer.specs.declared.rows.Row.the-variants as row
 use Rattle.writer.specs.declared.tables.Table.{Table}
-use Rattle.writer.proofs.LawsPut.{no-length, puts-then, puts-none, wrote-then, wrote-nil, lies-front, lies-back}
+use Rattle.writer.proofs.LawsPut.{no-length, puts-then, puts-none, wrote-then, wrote-nil, wrote-nowhere, lies-front, lies-back}
 
 -- A count, and padding from the place behind it.
 pub count-put : {n a base at : ℕ} {out mid out' : List ℕ} {next place r : ℕ} → Wrote (spelling n) at out mid next →
@@ -136,6 +137,37 @@ starts-none c k w n s word start at out z =
     record {
       each = λ xs e a i fw fr fb. let l : length xs ≡ 0 = omega arith in starts-none-each c k w word start at out xs l;
     }
+
+-- How many there are.
+length-starts : (k : Row) (n : ℕ) (es : List (List ℕ)) → length (startsFrom k n es) ≡ length es
+unfolding startsFrom
+length-starts k n [] = refl
+length-starts k n (e ∷ es) = ap suc (length-starts k (n + inUnits k (length e)) es)
+
+-- Into an output of no bytes no start is put, and each takes the place its width further.
+pub starts-skipped : (c : VersionClass) (k : Row) (w n : ℕ) (s : List ℕ) (word start at r : ℕ) (out : List ℕ) → length out ≡ 0 →
+    r ≡ (at + n * w) % 2 ^ 64 → StartsPut c k w n s word start at out out r
+starts-skipped c k w n s word start at r out e p =
+    record {
+      each =
+          λ xs l a i fw fr fb.
+          let es = map (rowBytes c k) xs in
+          let m : length (startsFrom k start es) ≡ n = length-starts k start es ∙ length-map xs (rowBytes c k) ∙ l in
+          let d = length-flat w (startsFrom k start es) ∙ ap (λ (j : ℕ). j * w) m in
+          wrote-nowhere (flat w (startsFrom k start es)) (n * w) at r out d e p;
+    }
+
+-- No start to skip, or one and then the others.
+pub skip-none : (w n at : ℕ) → n ≤ 0 → at < 2 ^ 64 → at ≡ (at + n * w) % 2 ^ 64
+skip-none w n at z h =
+    let e : n ≡ 0 = omega arith in
+    let x = zero-mul w in
+    rw e (omega arith)
+
+pub skip-more : (w n m at next : ℕ) → n ≡ suc m → next ≡ (at + w) % 2 ^ 64 → (next + m * w) % 2 ^ 64 ≡ (at + n * w) % 2 ^ 64
+skip-more w n m at next e p =
+    let x = suc-mul m w in
+    rw e (omega arith)
 
 pub starts-more : {c : VersionClass} {k : Row} {w : ℕ} {s : List ℕ} (n : ℕ) → 0 < n →
     {pool : List ℕ} {word start at next r u start' : ℕ} {out mid kept out' : List ℕ} {z : Pen} →

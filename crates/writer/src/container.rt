@@ -104,6 +104,25 @@ fn measure_payload(
     put_payload(sheet, pool, class, section, &mut out[0..0], 0)
 }
 
+// A payload that was measured. Into an output of no bytes it is not put once more.
+fn put_measured(
+    sheet: &[u8],
+    pool: &[u8],
+    class: VersionClass,
+    section: Section,
+    size: usize,
+    out: &mut [u8],
+    at: usize,
+) -> usize
+    requires { ⌜ PayloadPut section «class» (now sheet) (now pool) 0 [] [] size ⌝ }
+    ensures { λ r. ⌜ PayloadPut section «class» (now (sheet .entry)) (now (pool .entry)) at (now (out .entry)) (now (out .exit)) r ⌝ }
+{
+    if out.len() == 0 {
+        return std::num::wrapping_add_usize(at, size);
+    }
+    put_payload(sheet, pool, class, section, out, at)
+}
+
 // A section, if it is written.
 fn put_section(
     sheet: &[u8],
@@ -120,7 +139,7 @@ fn put_section(
         let first = put_byte(out, at, first_byte(section));
         let length = put_varint(out, first, size as u64);
         let begin = put_alignment(section, out, length);
-        return put_payload(sheet, pool, class, section, out, begin);
+        return put_measured(sheet, pool, class, section, size, out, begin);
     }
     at
 }

@@ -1,7 +1,7 @@
 // Offset tables: a count, padding, the starts, and the data. An entry's length, which the next start needs, is got by
 // putting the entry into an output of no bytes.
 ghost use mathlib.Core.Path.{_≡_};
-ghost use Prim.Native.Nat.{_-_};
+ghost use Prim.Native.Nat.{_+_, _-_, _*_, _%_, _^_};
 ghost use mathlib.Core.List.{[]};
 ghost use Rattle.writer.specs.Rows.{RowCopied, RowsCopied};
 ghost use Rattle.writer.specs.Tables.{CountPut, inUnits, StartsPut, TablePut};
@@ -87,6 +87,19 @@ pub fn in_units(row: Row, size: usize) -> usize
     }
 }
 
+// How far `count` starts take a place.
+fn skip_starts(at: usize, count: u64, width: usize) -> usize
+    ensures { λ r. ⌜ r ≡ (at + count * width) % 2 ^ 64 ⌝ }
+{
+    let mut next = at;
+    let mut left = count;
+    while 0 < left {
+        next = std::num::wrapping_add_usize(next, width);
+        left -= 1;
+    }
+    next
+}
+
 // The starts of a table's entries, the first of them 0.
 pub fn put_starts(
     sheet: &[u8],
@@ -98,6 +111,9 @@ pub fn put_starts(
 ) -> usize
     ensures { λ r. ⌜ StartsPut «class» (table .row) (table .width) (table .count) (now (sheet .entry)) (table .word) 0 at (now (out .entry)) (now (out .exit)) r ⌝ }
 {
+    if out.len() == 0 {
+        return skip_starts(at, table.count, table.width);
+    }
     let row = table.row;
     let mut next = at;
     let mut start = 0;

@@ -22,15 +22,15 @@ put-varint-requires c κs = search needs
 put-alignment-requires : tie.Need-put-alignment-requires
 put-alignment-requires c κs = search needs
 
-put-payload-requires : tie.Need-put-payload-requires
-put-payload-requires c κs = search needs
+put-measured-requires : tie.Need-put-measured-requires
+put-measured-requires c κs = c .before .before .before .before .before .before .before .before .before .before .before .before .before .before .before .before .measure-payload .ensures .0
 
 same-length : tie.Need-same-length
 same-length c = search needs
 
 returns : tie.Need-returns
 returns c =
-    section-put (c .before .before .before .before .before .before .before .before .before .before .before .before .before .before .before .before .before .before .before .before .before .before .is-present .ensures) (c .before .before .before .before .before .before .before .before .before .before .before .before .before .before .before .before .before .before .before .before .before .if1 .taken) (c .before .before .before .before .before .before .before .before .before .before .before .before .before .before .before .before .before .before .before .measure-payload .ensures .0) (c .before .before .before .before .before .before .before .before .before .before .before .before .before .before .before .before .before .before .before .measure-payload .ensures .1) (c .before .before .before .before .before .before .before .before .before .before .before .before .before .before .before .first-byte .ensures) (c .before .before .before .before .before .before .before .before .before .before .before .before .before .before .put-byte .ensures) (c .before .before .before .before .before .before .before .before .before .before .put-varint .ensures) (c .before .before .before .before .before .before .put-alignment .ensures) (c .before .before .put-payload .ensures)
+    section-put (c .before .before .before .before .before .before .before .before .before .before .before .before .before .before .before .before .before .before .before .before .before .before .is-present .ensures) (c .before .before .before .before .before .before .before .before .before .before .before .before .before .before .before .before .before .before .before .before .before .if1 .taken) (c .before .before .before .before .before .before .before .before .before .before .before .before .before .before .before .before .before .before .before .measure-payload .ensures .0) (c .before .before .before .before .before .before .before .before .before .before .before .before .before .before .before .before .before .before .before .measure-payload .ensures .1) (c .before .before .before .before .before .before .before .before .before .before .before .before .before .before .before .first-byte .ensures) (c .before .before .before .before .before .before .before .before .before .before .before .before .before .before .put-byte .ensures) (c .before .before .before .before .before .before .before .before .before .before .put-varint .ensures) (c .before .before .before .before .before .before .put-alignment .ensures) (c .before .before .put-measured .ensures)
 
 returns-2 : tie.Need-returns-2
 returns-2 c = section-none _ _ (c .before .is-present .ensures) (c .if1 .left)
@@ -45,7 +45,7 @@ put-section-spec =
     put-byte-requires
     put-varint-requires
     put-alignment-requires
-    put-payload-requires
+    put-measured-requires
     same-length
     returns
     returns-2)

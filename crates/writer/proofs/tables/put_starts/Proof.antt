@@ -5,7 +5,7 @@ use Prim.Native.Nat.{ℕ}
 use mathlib.Core.List.{List}
 use lib.ListN.{length}
 use Rattle.writer.specs.Tables.{StartsPut}
-use Rattle.writer.proofs.LawsTables.{starts-none, starts-more}
+use Rattle.writer.proofs.LawsTables.{starts-none, starts-more, starts-skipped}
 use borrow.Author.Needs.{needs}
 use Rattle.writer.proofs.tables.put_starts.Statement.{statement}
 use Rattle.writer.proofs.tables.put_starts.Tie as tie
@@ -18,6 +18,12 @@ Inv-loop sheet pool class table out₀ at row next₀ start₀ word₀ left₀ o
 
 abbrev μ-loop : tie.MeasureT-loop
 μ-loop sheet pool class table out₀ at row next₀ start₀ word₀ left₀ out next start word left = left
+
+skip-starts-requires : tie.Need-skip-starts-requires Inv-loop μ-loop
+skip-starts-requires c κs = search needs
+
+returns : tie.Need-returns Inv-loop μ-loop
+returns c = starts-skipped _ _ _ _ _ _ _ _ _ _ (c .before .if1 .taken) (c .skip-starts .ensures)
 
 loop-holds : tie.Need-loop-holds Inv-loop μ-loop
 loop-holds c = (λ o r x. x, refl)
@@ -49,8 +55,8 @@ loop-again c =
 same-length : tie.Need-same-length Inv-loop μ-loop
 same-length c = search needs
 
-returns : tie.Need-returns Inv-loop μ-loop
-returns c =
+returns-2 : tie.Need-returns-2 Inv-loop μ-loop
+returns-2 c =
     let l = c .before .loop in
     l .inv .0 _ _ (starts-none _ _ _ _ _ _ _ _ _ (c .loop-test .left))
 
@@ -60,6 +66,8 @@ put-starts-spec =
     (tie.spec
     Inv-loop
     μ-loop
+    skip-starts-requires
+    returns
     loop-holds
     put-le-requires
     measure-row-requires
@@ -69,4 +77,4 @@ put-starts-spec =
     loop-less
     loop-again
     same-length
-    returns)
+    returns-2)
