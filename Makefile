@@ -1,6 +1,7 @@
 # make demo: prove, build the library, and see it used from C++.
 # make test: what the gate runs: everything is proved from nothing, and the tests of the hosts.
 # make command: build/tikomuci, which shows and checks files.
+# make install: the library, its headers and the command, below PREFIX; make uninstall removes them.
 # make bench: our calls beside encoding.rs, decoder.rs and a plain reader and writer in Rust.
 # make answers: writes the list of decoder.rs's answers that the reader tests replay.
 
@@ -10,6 +11,9 @@ SHELL := bash
 .PHONY: help demo test command bench answers verdict library cpp-tests reader-tests comparison lint clean
 
 include tools/machine.mk
+
+# Of all that is installed; hosts/rust/Cargo.toml has it too.
+VERSION := 0.1.0
 
 # The Rust that was carried over: a folder `docs/src` beside the repository. A clone that stands alone has none.
 RUST_SOURCE ?= ../shared/docs/src
@@ -31,13 +35,15 @@ help:
 
 demo:
 	rt check
-	$(MAKE) --no-print-directory library build/demo
+	$(MAKE) --no-print-directory library build/demo build/example
 	$(RUN) build/demo
+	$(RUN) build/example
 
 test:
 	tools/timed "proofs, must-fail edits and programs" $(MAKE) --no-print-directory verdict
 	tools/timed "static library" $(MAKE) --no-print-directory library
 	tools/timed "C++ tests" $(MAKE) --no-print-directory cpp-tests
+	tools/timed "install tests" $(MAKE) --no-print-directory install-tests
 	tools/timed "reader tests" $(MAKE) --no-print-directory reader-tests
 	tools/timed "comparison with the Rust" $(MAKE) --no-print-directory comparison
 
@@ -88,7 +94,7 @@ endif
 
 lint:
 	rt fmt --check
-	clang-format --dry-run -Werror include/* hosts/cpp/*.c hosts/cpp/*.?pp hosts/cpp/command/*.?pp
+	clang-format --dry-run -Werror include/* hosts/cpp/*.c hosts/cpp/*.?pp hosts/cpp/*/*.?pp
 	cargo fmt --manifest-path hosts/rust/Cargo.toml --all --check
 	$(NATIVE_CARGO) clippy $(IN_RUST) --workspace --all-targets -- -D warnings
 
@@ -98,7 +104,7 @@ clean:
 $(LIBRARY):
 	$(MAKE) --no-print-directory library
 
-build/demo: build/demo.o $(LIBRARY)
+build/demo build/example: build/%: build/%.o $(LIBRARY)
 	$(CXX) $^ -o $@
 
 build/tests: $(TESTS) build/header.o $(LIBRARY)
@@ -107,7 +113,8 @@ build/tests: $(TESTS) build/header.o $(LIBRARY)
 build/tikomuci: $(COMMAND) $(LIBRARY)
 	$(CXX) $^ -o $@
 
-build/demo.o $(TESTS) $(COMMAND): include/tikomuci_tables.hpp
+build/demo.o build/example.o $(TESTS) $(COMMAND): include/tikomuci_tables.hpp
+build/example.o: hosts/cpp/sample.hpp
 $(TESTS): hosts/cpp/check.hpp
 $(COMMAND): hosts/cpp/command/command.hpp
 
@@ -118,3 +125,5 @@ build/%.o: hosts/cpp/%.cpp include/tikomuci.hpp include/tikomuci.h
 build/header.o: hosts/cpp/header.c include/tikomuci.h
 	@mkdir -p build
 	$(CC) $(CFLAGS) -c $< -o $@
+
+include packaging/install.mk

@@ -10,12 +10,14 @@ ifeq ($(shell uname -m),x86_64)
 CC := gcc
 CXX := g++
 RUN :=
+CMAKE_MACHINE :=
 NATIVE_ARCHIVE := $(CURDIR)/target/staticlib
 NATIVE_CARGO := cargo
 else
 CC := x86_64-linux-gnu-gcc
 CXX := x86_64-linux-gnu-g++
 RUN := qemu-x86_64
+CMAKE_MACHINE := -DCMAKE_SYSTEM_NAME=Linux -DCMAKE_SYSTEM_PROCESSOR=x86_64
 NATIVE_ARCHIVE := $(CURDIR)/build/native
 NATIVE_CARGO := env -u RUSTC -u CARGO_BUILD_TARGET TIKOMUCI_ARCHIVE=$(NATIVE_ARCHIVE) cargo
 export RUSTC := $(shell tools/rustc-for $(TRIPLE))
