@@ -3,6 +3,8 @@
 # make command: build/tikomuci, which shows and checks files.
 # make install: the library, its headers and the command, below PREFIX; make uninstall removes them.
 # make bench: our calls beside encoding.rs, decoder.rs and a plain reader and writer in Rust.
+# make fuzz: tries the calls on arbitrary bytes for a minute (FUZZ_SECONDS=n).
+# make corpus: writes the files that the fuzzer starts from.
 # make answers: writes the list of decoder.rs's answers that the reader tests replay.
 
 SHELL := bash
@@ -43,6 +45,9 @@ test:
 	tools/timed "proofs, must-fail edits and programs" $(MAKE) --no-print-directory verdict
 	tools/timed "static library" $(MAKE) --no-print-directory library
 	tools/timed "C++ tests" $(MAKE) --no-print-directory cpp-tests
+	tools/timed "sanitizers" $(MAKE) --no-print-directory sanitizers
+	tools/timed "sixty threads" $(MAKE) --no-print-directory threads
+	tools/timed "fuzzer" $(MAKE) --no-print-directory fuzz FUZZ_SECONDS=40
 	tools/timed "install tests" $(MAKE) --no-print-directory install-tests
 	tools/timed "reader tests" $(MAKE) --no-print-directory reader-tests
 	tools/timed "comparison with the Rust" $(MAKE) --no-print-directory comparison
@@ -127,3 +132,4 @@ build/header.o: hosts/cpp/header.c include/tikomuci.h
 	$(CC) $(CFLAGS) -c $< -o $@
 
 include packaging/install.mk
+include tools/sanitizers.mk

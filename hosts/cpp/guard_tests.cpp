@@ -172,8 +172,8 @@ void read_between(Memories &memories, const std::string &what, Bytes file, Side 
     Wire pool(size.value.bytes);
     const Outcome wanted = tikomuci::read(file, sheet, pool).outcome;
     expect(wanted == size.outcome, what + ": read as measured");
-    for (const std::size_t less : {0, 1}) {
-        for (const std::size_t pool_less : {0, 1}) {
+    for (const std::size_t less : {std::size_t{0}, std::size_t{1}}) {
+        for (const std::size_t pool_less : {std::size_t{0}, std::size_t{1}}) {
             const std::size_t room = sheet.size() - std::min(sheet.size(), 8 * less);
             const std::size_t pool_room = pool.size() - std::min(pool.size(), pool_less);
             const bool fits = room == sheet.size() && pool_room == pool.size();
@@ -238,7 +238,7 @@ Outcome written_between(Memories &memories, const std::string &what, const Wire 
     Wire image(size.value);
     const Outcome wanted = tikomuci::write(sheet, pool, image).outcome;
     expect(wanted == size.outcome, what + ": written as measured");
-    for (const std::size_t less : {0, 1}) {
+    for (const std::size_t less : {std::size_t{0}, std::size_t{1}}) {
         const std::size_t room = image.size() - std::min(image.size(), less);
         const bool fits = room == image.size();
         const Output place = memories.file.store(room, side);

@@ -5,6 +5,7 @@
 #include <cmath>
 #include <cstdio>
 #include <cstdlib>
+#include <initializer_list>
 #include <limits>
 #include <string>
 #include <vector>
@@ -208,7 +209,7 @@ void section_views() {
     const Wire file = whole_case();
     const auto strings = tikomuci::section(file, TIKOMUCI_SECTION_STRING);
     expect(strings && strings.value.data() == file.data() + 16 && strings.value.size() == 15, "the String section");
-    for (const std::uint64_t id : {0, 2, 3, 4, 5, 6, 7, 8, 127}) {
+    for (const std::uint64_t id : std::initializer_list<std::uint64_t>{0, 2, 3, 4, 5, 6, 7, 8, 127}) {
         expect(tikomuci::section(file, id).outcome == ABSENT, "section " + std::to_string(id) + " is not there");
     }
     expect(tikomuci::section(file, std::numeric_limits<std::uint64_t>::max()).outcome == ABSENT, "a far section id");
