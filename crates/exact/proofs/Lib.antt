@@ -16,3 +16,4 @@ pub mod LawsUpto
 pub mod LawsUntil
 pub mod LawsEntries
 pub mod LawsJoined
+pub mod LawsOnly

@@ -16,3 +16,4 @@ pub mod Upto
 pub mod Until
 pub mod Entries
 pub mod Joined
+pub mod Only

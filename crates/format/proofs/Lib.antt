@@ -42,3 +42,5 @@ pub mod LawsStarts
 pub mod Writes
 pub mod FullCase
 pub mod LawsBelow
+pub mod LawsRefusals
+pub mod Refused

@@ -23,3 +23,4 @@ pub mod Decode
 pub mod Stands
 pub mod Views
 pub mod Write
+pub mod Refusals

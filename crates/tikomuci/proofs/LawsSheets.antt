@@ -3,10 +3,12 @@
 use mathlib.Core.Path.{_≡_, sym, ap, _∙_}
 use Prim.Native.Nat.{ℕ}
 use mathlib.Core.List.{List}
+use lib.ListN.{length}
 use Rattle.writer.specs.Written.{WritePost, ImagePost}
 use Rattle.writer.specs.declared.Imaged.{Imaged}
 use Rattle.tikomuci.specs.declared.Answer.{Answer}
 use Rattle.tikomuci.specs.Sheets.{size, SheetWritten, SheetImaged}
+use Rattle.tikomuci.proofs.LawsTold.{size-told, size-refused}
 
 -- Writing, shown.
 pub sheet-written : (s pool out out' : List ℕ) (x : Imaged) (r : Answer) → r ≡ size x → WritePost s pool out out' x → SheetWritten s pool out out' r
@@ -14,8 +16,8 @@ sheet-written s pool out out' x r e p =
     record {
       answer = e ∙ ap size (p .answer);
       output = p .output;
-      unchanged = λ c h. p .unchanged c (p .answer ∙ h);
-      written = λ n h. p .written n (p .answer ∙ h);
+      unchanged = λ z. let (c, h) = size-refused x r e z in p .unchanged c h;
+      written = λ z. p .written (r .first) (p .answer ∙ size-told s pool (length out) r (e ∙ ap size (p .answer)) z);
       complete = λ t h whole words bytes m n k l. e ∙ ap size (p .complete t h whole words bytes m n k l);
     }
 

@@ -1,23 +1,28 @@
 -- A view answers what the crate below answered; and any two answers that its contract allows are equal. Assumes nothing.
-use mathlib.Core.Path.{_≡_, sym, _∙_}
+use mathlib.Core.Path.{_≡_, sym, ap, _∙_}
 use Prim.Native.Nat.{ℕ}
 use mathlib.Core.List.{List}
 use Rattle.exact.specs.Entries.{Rows}
 use Rattle.format.specs.Explains.{Placed}
+use Rattle.format.specs.Views.{rowView, sectionView}
+use Rattle.format.proofs.Refused.{row-listed, section-listed}
 use Rattle.container.specs.Views.{SectionPost, viewOf}
 use Rattle.container.specs.declared.ViewRead.{ViewRead}
 use Rattle.decoder.specs.Views.{RowPost}
 use Rattle.tikomuci.specs.declared.Answer.{Answer}
-use Rattle.tikomuci.specs.Views.{view, SectionViewed, RowViewed}
+use Rattle.tikomuci.specs.Views.{view, spanIn, SectionViewed, RowViewed}
 use Rattle.tikomuci.proofs.LawsBoundary.{told}
+use Rattle.tikomuci.proofs.LawsTold.{span-told}
 
 -- A section's view, shown.
 pub section-viewed : (file : List ℕ) (id : ℕ) (x : ViewRead) (r : Answer) → r ≡ view (viewOf x) → SectionPost file id x → SectionViewed file id r
 section-viewed file id x r e p =
     record {
       answer = told view e (p .answer);
-      sound = λ s h. p .sound s (p .answer ∙ h);
-      complete = λ s a n i. sym (p .answer) ∙ p .complete s a n i;
+      sound = λ z.
+          let a = told view e (p .answer) in
+          p .sound (spanIn r) (p .answer ∙ span-told (sectionView file id) (section-listed file id) r a z);
+      complete = λ s a n i. e ∙ ap view (p .complete s a n i);
     }
 
 -- Its contract allows one answer.
@@ -30,8 +35,10 @@ pub row-viewed : (rowsIn : Placed → Rows (List ℕ)) (id : ℕ) (file : List �
 row-viewed rowsIn id file k x r e p =
     record {
       answer = told view e (p .answer);
-      sound = λ s h. p .sound s (p .answer ∙ h);
-      complete = λ y l n i. sym (p .answer) ∙ p .complete y l n i;
+      sound = λ z.
+          let a = told view e (p .answer) in
+          p .sound (spanIn r) (p .answer ∙ span-told (rowView rowsIn file k) (row-listed rowsIn file k) r a z);
+      complete = λ y l n i. e ∙ ap view (p .complete y l n i);
     }
 
 -- Its contract allows one answer.

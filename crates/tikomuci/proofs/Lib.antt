@@ -1,4 +1,5 @@
 pub mod LawsBoundary
+pub mod LawsTold
 pub mod LawsViews
 pub mod LawsFiles
 pub mod LawsSheets

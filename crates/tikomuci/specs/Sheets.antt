@@ -1,7 +1,7 @@
 -- What writing a handed sheet answers across the C boundary, and what it promises (document 01, "Refusal numbers": all
 -- writing is stage 10).
 use mathlib.Core.Path.{_≡_}
-use Prim.Native.Nat.{ℕ, _%_, _≤_}
+use Prim.Native.Nat.{ℕ, _%_, _≤_, _<_}
 use mathlib.Core.List.{List}
 use lib.ListN.{length}
 use Rattle.format.specs.Tables.{Tables}
@@ -27,10 +27,10 @@ size (told.Refused c) = boundary.refusedAs c
 pub record SheetWritten (s pool out out' : List ℕ) (r : Answer) : Type 0 where
   pub answer : r ≡ size (inRoom (length out) (writing s pool))
   pub output : out' ≡ withImage out (writing s pool)
-  -- A refused call has changed nothing.
-  pub unchanged : (c : ℕ) → inRoom (length out) (writing s pool) ≡ told.Refused c → out' ≡ out
+  -- A refused call, whose refusal is not 0, has changed nothing.
+  pub unchanged : 0 < r .refusal → out' ≡ out
   -- Only the image of the tables that were handed is written ..
-  pub written : (n : ℕ) → inRoom (length out) (writing s pool) ≡ told.Bytes n → Kept s pool out out' n
+  pub written : r .refusal ≡ 0 → Kept s pool out out' (r .first)
   -- .. and that of all well-formed tables within the limits is, if it fits.
   pub complete : (t : Tables) → Sound t → length s % 8 ≡ 0 → wordsIn s ≡ sheetOf t → pool ≡ poolOf t →
       length (sheetOf t) ≤ mostWords → length (poolOf t) ≤ mostBytes → length (image t) ≤ mostBytes → length (image t) ≤ length out →

@@ -18,16 +18,20 @@ abbrev pub view : Read Span → Answer
 view (accepted s) = boundary.accepted (s .offset) (s .size)
 view (refused n stage at) = record { refusal = n; stage = stage; first = 0; second = 0 }
 
--- The view of a section: it answers what the model answers, which is exactly the payload asked for.
+-- The place that an answer tells.
+abbrev pub spanIn : Answer → Span
+spanIn r = record { offset = r .first; size = r .second }
+
+-- The view of a section: it answers what the model answers, which with refusal 0 is exactly the payload asked for.
 pub record SectionViewed (file : List ℕ) (id : ℕ) (r : Answer) : Type 0 where
   pub answer : r ≡ view (sectionView file id)
-  pub sound : (s : Span) → sectionView file id ≡ accepted s → SectionAt file id s
-  pub complete : (s : Span) → SectionAt file id s → length file ≤ mostBytes → id < numSections → sectionView file id ≡ accepted s
+  pub sound : r .refusal ≡ 0 → SectionAt file id (spanIn r)
+  pub complete : (s : Span) → SectionAt file id s → length file ≤ mostBytes → id < numSections → r ≡ view (accepted s)
 
 -- The view of row k, of the rows that a layout gives and the section that has them: it answers what the model answers,
--- which is exactly the row asked for.
+-- which with refusal 0 is exactly the row asked for.
 pub record RowViewed (rowsIn : Placed → Rows (List ℕ)) (id : ℕ) (file : List ℕ) (k : ℕ) (r : Answer) : Type 0 where
   pub answer : r ≡ view (rowView rowsIn file k)
-  pub sound : (s : Span) → rowView rowsIn file k ≡ accepted s → Viewed rowsIn id file k s
+  pub sound : r .refusal ≡ 0 → Viewed rowsIn id file k (spanIn r)
   pub complete : (x : Placed) → Layout file x → length file ≤ mostBytes → k < length (rowsIn x .values) →
-      rowView rowsIn file k ≡ accepted (spanOf (rowsIn x) k)
+      r ≡ view (accepted (spanOf (rowsIn x) k))
