@@ -42,14 +42,14 @@ use Rattle.container.specs.Views.{viewOf}
 use Rattle.container.proofs.LawsPlaces.{held-at, placeIn}
 use Rattle.container.proofs.LawsOpened.{container-opened}
 use Rattle.container.proofs.LawsViews.{view-only}
-use Rattle.decoder.specs.declared.tables.EntryPlace.{EntryPlace}
-use Rattle.decoder.specs.declared.tables.EntryPlace.the-variants as entry
-use Rattle.decoder.specs.Rows.{bodiesOf}
-use Rattle.decoder.specs.Tables as table
-use Rattle.decoder.specs.declared.Need.{Need}
+use Rattle.payloads.specs.declared.places.EntryPlace.{EntryPlace}
+use Rattle.payloads.specs.declared.places.EntryPlace.the-variants as entry
+use Rattle.payloads.specs.Rows.{bodiesOf}
+use Rattle.payloads.specs.Tables as table
+use Rattle.payloads.specs.declared.Need.{Need}
+use Rattle.payloads.specs.Whole.{needOf}
 use Rattle.decoder.specs.declared.views.RowKind.{RowKind}
 use Rattle.decoder.specs.declared.views.RowKind.the-variants as kind
-use Rattle.decoder.specs.File.{needOf}
 use Rattle.decoder.specs.Views.{rowsOf, idOf, FindsRow, Accepted, notThere, RowPost}
 
 none-not-some : {A : Type 0} {x : A} → none ≡ some x → ⊥

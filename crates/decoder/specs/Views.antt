@@ -12,9 +12,9 @@ use Rattle.format.specs.Decode.{mostBytes, placed}
 use Rattle.format.specs.Views.{Span, stringsIn, constantsIn, bodiesIn, spanOf, rowView, Viewed}
 use Rattle.container.specs.declared.ViewRead.{ViewRead}
 use Rattle.container.specs.Views.{viewOf}
-use Rattle.decoder.specs.declared.tables.EntryPlace.{EntryPlace}
-use Rattle.decoder.specs.Tables.{Finds}
-use Rattle.decoder.specs.Rows.{FindsBody}
+use Rattle.payloads.specs.declared.places.EntryPlace.{EntryPlace}
+use Rattle.payloads.specs.Tables.{Finds}
+use Rattle.payloads.specs.Rows.{FindsBody}
 use Rattle.decoder.specs.declared.views.RowKind.{RowKind}
 use Rattle.decoder.specs.declared.views.RowKind.the-variants as kind
 

@@ -1,11 +1,4 @@
 // decoder.rs: reads a file of Tile IR bytecode.
-mod answers;
-mod debug;
-mod fields;
-mod pass;
-mod rows;
-mod tables;
-mod types;
 mod views;
 
 ghost use Rattle.enums.specs.Container.{stringId, constantId, funcId};
@@ -16,18 +9,8 @@ use container::ViewRead;
 use container::sections::Stopped;
 use enums::Refusal;
 use enums::Stage;
+pub use payloads::FileRead;
 use views::RowKind;
-
-// How many words the sheet of a file has, and how many bytes its pool.
-pub struct Need {
-    pub words: usize,
-    pub bytes: usize,
-}
-
-pub enum FileRead {
-    Got(Need),
-    Stop(Stopped),
-}
 
 // How large the stores have to be: a pass over the file that is lent none.
 pub fn measure(file: &[u8]) -> FileRead
@@ -35,7 +18,7 @@ pub fn measure(file: &[u8]) -> FileRead
 {
     let mut sheet: [u8; 0] = [];
     let mut pool: [u8; 0] = [];
-    pass::fill(file, &mut sheet, &mut pool)
+    payloads::fill(file, &mut sheet, &mut pool)
 }
 
 // The tables of a file as a sheet and a pool. The first pass measures, on no store, so that a refused call has written
@@ -43,7 +26,7 @@ pub fn measure(file: &[u8]) -> FileRead
 pub fn read(file: &[u8], sheet: &mut [u8], pool: &mut [u8]) -> FileRead
     ensures { λ r. ⌜ ReadPost (now (file .entry)) (now (sheet .entry)) (now (sheet .exit)) (now (pool .entry)) (now (pool .exit)) r ⌝ }
 {
-    match pass::fill(file, &mut sheet[0..0], &mut pool[0..0]) {
+    match payloads::fill(file, &mut sheet[0..0], &mut pool[0..0]) {
         FileRead::Stop(x) => FileRead::Stop(x),
         FileRead::Got(need) => {
             if sheet.len() / 8 < need.words || pool.len() < need.bytes {
@@ -53,7 +36,7 @@ pub fn read(file: &[u8], sheet: &mut [u8], pool: &mut [u8]) -> FileRead
                     at: 0,
                 });
             }
-            pass::fill(file, sheet, pool)
+            payloads::fill(file, sheet, pool)
         }
     }
 }

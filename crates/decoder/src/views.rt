@@ -6,11 +6,7 @@ ghost use Rattle.format.specs.Views.{rowView};
 ghost use Rattle.container.specs.Container.{nowhere, opened, heldContainer};
 ghost use Rattle.container.specs.Views.{viewOf};
 ghost use Rattle.decoder.specs.Views.{idOf, rowsOf, FindsRow, notThere, Accepted, RowPost};
-use crate::FileRead;
 use crate::measure;
-use crate::rows::body_place;
-use crate::tables::EntryPlace;
-use crate::tables::entry_place;
 use container::View;
 use container::ViewRead;
 use container::sections;
@@ -19,6 +15,11 @@ use container::sections::Stopped;
 use enums::Refusal;
 use enums::Section;
 use enums::Stage;
+use payloads::FileRead;
+use payloads::places::EntryPlace;
+use payloads::places::body_place;
+use payloads::places::constant_place;
+use payloads::places::string_place;
 
 // The tables whose rows are runs of bytes.
 pub enum RowKind {
@@ -43,8 +44,8 @@ fn place_in(kind: RowKind, payload: &[u8], index: u64) -> EntryPlace
     ensures { λ r. ⌜ FindsRow kind (now (payload .entry)) index r ⌝ }
 {
     match kind {
-        RowKind::String => entry_place(payload, 4, 4, index),
-        RowKind::Constant => entry_place(payload, 8, 8, index),
+        RowKind::String => string_place(payload, index),
+        RowKind::Constant => constant_place(payload, index),
         RowKind::Body => body_place(payload, index),
     }
 }

@@ -9,8 +9,9 @@ use Rattle.encoding.specs.Out.{put, flat}
 use Rattle.format.specs.Read.{mapRead}
 use Rattle.format.specs.Decode.{decode}
 use Rattle.format.specs.Sheet.{sheetOf, poolOf}
-use Rattle.decoder.specs.File.{needOf, fileRead, MeasurePost, ReadPost}
-use Rattle.decoder.specs.declared.FileRead.{FileRead}
+use Rattle.payloads.specs.declared.FileRead.{FileRead}
+use Rattle.payloads.specs.Whole.{needOf, fileRead}
+use Rattle.decoder.specs.File.{MeasurePost, ReadPost}
 use Rattle.tikomuci.specs.declared.Answer.{Answer}
 use Rattle.tikomuci.specs.Files.{needed, sizeIn, Measured, reading, FileDone}
 use Rattle.tikomuci.proofs.LawsBoundary.{told}

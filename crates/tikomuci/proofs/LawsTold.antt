@@ -20,8 +20,9 @@ use Rattle.format.specs.Sheet.{sheetOf, poolOf}
 use Rattle.format.proofs.Refused.{refused-some, decode-listed, listed-then, listed-choose}
 use Rattle.judge.specs.Judge.{judgedBytes}
 use Rattle.sheet.specs.Store.{wordsIn}
-use Rattle.decoder.specs.declared.Need.{Need}
-use Rattle.decoder.specs.File.{needOf, stored}
+use Rattle.payloads.specs.declared.Need.{Need}
+use Rattle.payloads.specs.Whole.{needOf}
+use Rattle.decoder.specs.File.{stored}
 use Rattle.writer.specs.Writes.{inRoom}
 use Rattle.writer.specs.Written.{writing}
 use Rattle.writer.specs.declared.Imaged.{Imaged}

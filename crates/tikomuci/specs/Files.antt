@@ -11,8 +11,9 @@ use Rattle.format.specs.Read.{Read, accepted, refused, mapRead}
 use Rattle.format.specs.Decode.{mostBytes, decode}
 use Rattle.format.specs.Views.{andThen}
 use Rattle.format.specs.Sheet.{sheetOf, poolOf}
-use Rattle.decoder.specs.declared.Need.{Need}
-use Rattle.decoder.specs.File.{needOf, stored, Stored}
+use Rattle.payloads.specs.declared.Need.{Need}
+use Rattle.payloads.specs.Whole.{needOf}
+use Rattle.decoder.specs.File.{stored, Stored}
 use Rattle.tikomuci.specs.declared.Answer.{Answer}
 use Rattle.tikomuci.specs.Boundary as boundary
 

@@ -39,7 +39,7 @@ ghost use Rattle.reading.specs.Shown.{gotByte, gotU16, gotU32, gotNum, gotI32, 
 ghost use Rattle.enums.specs.Container.{stringId, constantId, funcId};
 ghost use Rattle.format.specs.Views.{stringsIn, constantsIn, bodiesIn};
 ghost use Rattle.container.specs.Views.{viewOf};
-ghost use Rattle.decoder.specs.File.{fileRead};
+ghost use Rattle.payloads.specs.Whole.{fileRead};
 ghost use Rattle.tikomuci.specs.Boundary.{accepted, refusedAs, Puts, Writes, WritesFloat, Patches, nextPlace, nextAligned, number, signedNumber, reached, run, runOf, items, itemsOf, skipped};
 ghost use Rattle.tikomuci.specs.Views.{view, SectionViewed, RowViewed};
 ghost use Rattle.tikomuci.specs.Files.{needed, Measured, FileDone};

@@ -19,14 +19,14 @@ use Rattle.format.specs.Image.{image, Starts32}
 use Rattle.format.specs.Write.{Writing, writes, refuses, starts32?, imaged}
 use Rattle.format.proofs.LawsPool.{pool-length}
 use Rattle.sheet.specs.Store.{wordsIn}
-use Rattle.writer.specs.Sections.{Holds}
-use Rattle.writer.specs.Images.{ImagePut}
-use Rattle.writer.specs.Starts.{FitTold}
+use Rattle.images.specs.Sections.{Holds}
+use Rattle.images.specs.Images.{ImagePut}
+use Rattle.images.specs.Starts.{FitTold}
 use Rattle.writer.specs.Writes.{lengthOf, ImageTold, inRoom, withImage, JudgedWritten}
 use Rattle.writer.specs.declared.Imaged.{Imaged}
 use Rattle.writer.specs.declared.Imaged.the-variants as told
-use Rattle.writer.proofs.LawsImage.{holds-none}
-use Rattle.writer.proofs.LawsWritten.{image-fits, pool-le, image-answer, image-written}
+use Rattle.images.proofs.LawsImage.{holds-none}
+use Rattle.images.proofs.LawsWritten.{image-fits, pool-le, image-answer, image-written}
 
 pool-word : (t : Tables) → getD (sheetOf t) 4 0 ≡ length (poolOf t)
 unfolding sheetOf wordsOf

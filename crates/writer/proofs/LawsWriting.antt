@@ -32,12 +32,12 @@ use Rattle.judge.specs.declared.SheetJudged.{SheetJudged}
 use Rattle.judge.specs.declared.SheetJudged.the-variants as sheet
 use Rattle.judge.specs.Judge.{judgedBytes, summary}
 use Rattle.judge.proofs.LawsPlaced.{judged-holds, passed-of}
-use Rattle.writer.specs.Sections.{Holds}
+use Rattle.images.specs.Sections.{Holds}
 use Rattle.writer.specs.Writes.{lengthOf, ImageTold, inRoom, withImage, JudgedWritten}
 use Rattle.writer.specs.Written.{writing, writingAlone, Kept, WritePost, ImagePost}
 use Rattle.writer.specs.declared.Imaged.{Imaged}
 use Rattle.writer.specs.declared.Imaged.the-variants as told
-use Rattle.writer.proofs.LawsWritten.{holds-judged, zeros-fit}
+use Rattle.images.proofs.LawsWritten.{holds-judged, zeros-fit}
 
 -- What the type says of a slice's elements.
 pub known-bytes : (l : List ℕ) → ((i : ℕ) → getD l i 0 < 256) → All (Fits 8) l

@@ -1,14 +1,2 @@
-pub mod LawsPut
-pub mod LawsFields
-pub mod LawsTypes
-pub mod LawsRows
-pub mod LawsTables
-pub mod LawsSheet
-pub mod LawsSections
-pub mod LawsDebug
-pub mod LawsImage
-pub mod LawsStarts
-pub mod LawsSizes
-pub mod LawsWritten
 pub mod LawsWrites
 pub mod LawsWriting

@@ -11,7 +11,7 @@ use Rattle.encoding.specs.Out.{put}
 use Rattle.format.specs.Tables.{Tables}
 use Rattle.format.specs.Sheet.{sheetOf}
 use Rattle.format.specs.Write.{Writing, writes, refuses, imaged}
-use Rattle.writer.specs.Sections.{Holds}
+use Rattle.images.specs.Sections.{Holds}
 use Rattle.writer.specs.declared.Imaged.{Imaged}
 use Rattle.writer.specs.declared.Imaged.the-variants as told
 

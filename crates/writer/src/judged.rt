@@ -2,9 +2,9 @@
 ghost use mathlib.Core.Path.{_≡_};
 ghost use Rattle.writer.specs.Writes.{ImageTold, JudgedWritten};
 use crate::Imaged;
-use crate::container::put_image;
-use crate::starts::starts_fit;
 use enums::Refusal;
+use images::put_image;
+use images::starts_fit;
 
 // How long the image of a judged sheet is: 13 where a start does not fit, 1 where the image is over its limit. The pool
 // is at most three times as long as the image, so one that is longer than that is told before anything is added up.

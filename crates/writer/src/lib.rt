@@ -1,14 +1,6 @@
 // The container writer: it makes the image of a handed sheet and its pool (document 01, "The sheet", the paragraph
 // "Writer").
-mod container;
-mod fields;
 mod judged;
-mod put;
-mod rows;
-mod sections;
-mod starts;
-mod tables;
-mod types;
 
 ghost use Rattle.writer.specs.Written.{WritePost, ImagePost};
 use enums::Refusal;

@@ -1,6 +1,4 @@
 -- `place_in` asks the finder of its kind of rows. Assumes nothing.
-use mathlib.Core.Path.{refl}
-use mathlib.Core.Logic.{inl, inr}
 use borrow.Author.Needs.{needs}
 use Rattle.decoder.specs.Views.{FindsRow}
 use Rattle.decoder.proofs.views.place_in.Statement.{statement}
@@ -9,14 +7,14 @@ use Rattle.decoder.proofs.views.place_in.Tie as tie
 enum-told : tie.Need-enum-told
 enum-told c = search needs
 
-entry-place-requires : tie.Need-entry-place-requires
-entry-place-requires c κs = inl refl
+string-place-requires : tie.Need-string-place-requires
+string-place-requires c κs = search needs
 
 enum-told-2 : tie.Need-enum-told-2
 enum-told-2 c = search needs
 
-entry-place-requires-2 : tie.Need-entry-place-requires-2
-entry-place-requires-2 c κs = inr refl
+constant-place-requires : tie.Need-constant-place-requires
+constant-place-requires c κs = search needs
 
 enum-told-3 : tie.Need-enum-told-3
 enum-told-3 c = search needs
@@ -26,11 +24,11 @@ body-place-requires c κs = search needs
 
 returns : tie.Need-returns
 unfolding FindsRow
-returns c = rw (c .before .enum-told .given .1) (c .entry-place .ensures)
+returns c = rw (c .before .enum-told .given .1) (c .string-place .ensures)
 
 returns-2 : tie.Need-returns-2
 unfolding FindsRow
-returns-2 c = rw (c .before .enum-told2 .given .1) (c .entry-place2 .ensures)
+returns-2 c = rw (c .before .enum-told2 .given .1) (c .constant-place .ensures)
 
 returns-3 : tie.Need-returns-3
 unfolding FindsRow
@@ -41,9 +39,9 @@ place-in-spec =
     tie.close
     (tie.spec
     enum-told
-    entry-place-requires
+    string-place-requires
     enum-told-2
-    entry-place-requires-2
+    constant-place-requires
     enum-told-3
     body-place-requires
     returns

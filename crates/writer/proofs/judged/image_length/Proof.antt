@@ -1,7 +1,7 @@
 -- `image_length` answers the image's length or its refusal. Assumes nothing.
 use mathlib.Core.Path.{_∙_}
 use borrow.Author.Tests.{not-true, not-false}
-use Rattle.writer.proofs.LawsTables.{in-front}
+use Rattle.images.proofs.LawsTables.{in-front}
 use Rattle.writer.proofs.LawsWrites.{told-start, told-pool, told-large, told-fine}
 use borrow.Author.Needs.{needs}
 use Rattle.writer.proofs.judged.image_length.Statement.{statement}

@@ -1,0 +1,12 @@
+pub mod LawsPut
+pub mod LawsFields
+pub mod LawsTypes
+pub mod LawsRows
+pub mod LawsTables
+pub mod LawsSheet
+pub mod LawsSections
+pub mod LawsDebug
+pub mod LawsImage
+pub mod LawsStarts
+pub mod LawsSizes
+pub mod LawsWritten

@@ -1,0 +1,75 @@
+-- What the writers of rows answer and leave in the output (document 01, "The container" and "The sheet"): one row, and
+-- the rows of a table one after the other.
+use mathlib.Core.Path.{_≡_}
+use Prim.Native.Nat.{ℕ}
+use mathlib.Core.List.{List, [], map}
+use lib.ListN.{length}
+use Rattle.exact.specs.Tiling.{join}
+use Rattle.enums.specs.declared.VersionClass.{VersionClass}
+use Rattle.encoding.specs.Out.{flat}
+use Rattle.format.specs.Tables.{TypeRow, Global, Function, Attribute}
+use Rattle.format.specs.Sheet.{functionRowOf, lengthWords, typeWords, globalWords, functionWords, attributeWords, listWords}
+use Rattle.format.specs.Sound.{All, SoundType, SoundGlobal, SoundFunction, SoundAttribute}
+use Rattle.format.specs.Image.{typeBytes, globalBytes, functionBytes, attributeBytes}
+use Rattle.images.specs.Fields.{Copied}
+use Rattle.images.specs.declared.fields.Pen.{Pen}
+use Rattle.images.specs.declared.rows.Row.{Row}
+use Rattle.images.specs.declared.rows.Row.the-variants as row
+
+-- A run of n bytes of the pool was put.
+pub record RunTaken (n : ℕ) (pool : List ℕ) (p : Pen) (out out' : List ℕ) (q : Pen) : Type 0 where
+  pub each : (s run : List ℕ) → length run ≡ n → Copied [] run run s pool p out out' q
+
+-- What a row of each kind stands for ..
+abbrev pub RowOf : Row → Type 0
+RowOf row.Run = List ℕ
+RowOf row.Type = TypeRow
+RowOf row.Global = Global
+RowOf row.Function = Function
+RowOf row.Attribute = Attribute
+RowOf row.List = List ℕ
+
+-- .. when it is well-formed ..
+unfoldable pub GoodRow : VersionClass → (k : Row) → RowOf k → Type 0
+GoodRow c row.Run x = Unit
+GoodRow c row.Type x = SoundType c x
+GoodRow c row.Global x = SoundGlobal c x
+GoodRow c row.Function x = SoundFunction (functionRowOf x)
+GoodRow c row.Attribute x = SoundAttribute x
+GoodRow c row.List x = Unit
+
+-- .. its words in the sheet ..
+unfoldable pub rowWords : (k : Row) → RowOf k → List ℕ
+rowWords row.Run x = lengthWords (length x)
+rowWords row.Type x = typeWords x
+rowWords row.Global x = globalWords x
+rowWords row.Function x = functionWords (functionRowOf x)
+rowWords row.Attribute x = attributeWords x
+rowWords row.List x = listWords x
+
+-- .. its run in the pool ..
+unfoldable pub rowRun : (k : Row) → RowOf k → List ℕ
+rowRun row.Run x = x
+rowRun row.Type x = []
+rowRun row.Global x = []
+rowRun row.Function x = x .body
+rowRun row.Attribute x = []
+rowRun row.List x = []
+
+-- .. and its bytes in the file. (A debug list's ids stand among those of the other lists.)
+unfoldable pub rowBytes : VersionClass → (k : Row) → RowOf k → List ℕ
+rowBytes c row.Run x = x
+rowBytes c row.Type x = typeBytes c x
+rowBytes c row.Global x = globalBytes c x
+rowBytes c row.Function x = functionBytes x
+rowBytes c row.Attribute x = attributeBytes x
+rowBytes c row.List x = flat 8 x
+
+-- Whatever row of this kind the sheet has next, it was copied.
+pub record RowCopied (c : VersionClass) (k : Row) (s pool : List ℕ) (p : Pen) (out out' : List ℕ) (q : Pen) : Type 0 where
+  pub each : (x : RowOf k) → GoodRow c k x → Copied (rowWords k x) (rowRun k x) (rowBytes c k x) s pool p out out' q
+
+-- Whatever n rows of this kind the sheet has next, they were copied.
+pub record RowsCopied (c : VersionClass) (k : Row) (n : ℕ) (s pool : List ℕ) (p : Pen) (out out' : List ℕ) (q : Pen) : Type 0 where
+  pub each : (xs : List (RowOf k)) → length xs ≡ n → All (GoodRow c k) xs →
+      Copied (join (map (rowWords k) xs)) (join (map (rowRun k) xs)) (join (map (rowBytes c k) xs)) s pool p out out' q

@@ -1,0 +1,24 @@
+-- `parse_constant_section` reads the offset table of Constant. Assumes nothing.
+use mathlib.Core.Path.{refl}
+use mathlib.Core.Logic.{inr}
+use Rattle.format.specs.DecodeTables.{constantsAt}
+use borrow.Author.Needs.{needs}
+use Rattle.payloads.proofs.tables.parse_constant_section.Statement.{statement}
+use Rattle.payloads.proofs.tables.parse_constant_section.Tie as tie
+
+parse-offset-table-requires : tie.Need-parse-offset-table-requires
+parse-offset-table-requires c κs = (inr refl, c .before .before .before .before .before .pre)
+
+same-length : tie.Need-same-length
+same-length c = search needs
+
+same-length-2 : tie.Need-same-length-2
+same-length-2 c = search needs
+
+returns : tie.Need-returns
+unfolding constantsAt
+returns c = c .before .before .before .before .parse-offset-table .ensures
+
+pub parse-constant-section-spec : {M : Type 1} → statement M
+parse-constant-section-spec =
+    tie.close (tie.spec parse-offset-table-requires same-length same-length-2 returns)

@@ -1,0 +1,51 @@
+-- `parse_offset_table` reads the starts and then the entries. Assumes nothing.
+use mathlib.Core.Path.{refl}
+use Rattle.exact.specs.Upto.{whole}
+use Rattle.reading.proofs.LawsShown.{told}
+use Rattle.payloads.specs.Tables.{gotStarts}
+use Rattle.payloads.proofs.LawsFill.{fills-stop}
+use Rattle.payloads.proofs.LawsTables.{offset-stop, offset-got, filling-stop}
+use borrow.Author.Needs.{needs}
+use Rattle.payloads.proofs.tables.parse_offset_table.Statement.{statement}
+use Rattle.payloads.proofs.tables.parse_offset_table.Tie as tie
+
+parse-starts-requires : tie.Need-parse-starts-requires
+parse-starts-requires c κs = search needs
+
+enum-known-x : tie.Need-enum-known-x
+enum-known-x c = search needs
+
+enum-known-starts : tie.Need-enum-known-starts
+enum-known-starts c = search needs
+
+fill-entries-requires : tie.Need-fill-entries-requires
+fill-entries-requires c κs = (c .before .before .before .before .before .parse-starts .ensures .lies _ (c .before .before .before .starts .given .1), c .before .before .before .before .before .before .before .before .before .pre .1)
+
+returns : tie.Need-returns
+returns c =
+    let t = told (gotStarts (c .before .before .before .before .before .before .before .args .payload .now)) (c .before .x .given .1) (c .before .before .before .parse-starts .ensures .answer) in
+    fills-stop _ _ _ (filling-stop _ _ _ (offset-stop _ _ _ _ _ _ _ _ t)) refl
+
+same-length : tie.Need-same-length
+same-length c = search needs
+
+same-length-2 : tie.Need-same-length-2
+same-length-2 c = search needs
+
+returns-2 : tie.Need-returns-2
+returns-2 c =
+    let t = told (gotStarts (c .before .before .before .before .before .before .before .before .before .before .before .before .before .before .args .payload .now)) (c .before .before .before .before .before .before .before .before .starts .given .1) (c .before .before .before .before .before .before .before .before .before .before .parse-starts .ensures .answer) in
+    rw (offset-got whole _ _ 0 _ _ _ _ t) (c .before .before .before .before .fill-entries .ensures)
+
+pub parse-offset-table-spec : {M : Type 1} → statement M
+parse-offset-table-spec =
+    tie.close
+    (tie.spec
+    parse-starts-requires
+    enum-known-x
+    enum-known-starts
+    fill-entries-requires
+    returns
+    same-length
+    same-length-2
+    returns-2)

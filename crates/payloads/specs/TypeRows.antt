@@ -1,0 +1,85 @@
+-- What the readers of type entries answer and leave in the sheet (document 01, "The sheet": type, the number of words
+-- that follow, tag, fields in wire order with counts before lists).
+use mathlib.Core.Path.{_≡_}
+use Prim.Native.Nat.{ℕ, _+_, _-_, _*_, _^_, _≤_, _<_}
+use mathlib.Core.Bool.{true, Bool-discrete}
+use mathlib.Core.List.{List, [], map}
+use lib.ListN.{length, drop}
+use Rattle.exact.specs.Got.{Got, got, stop, follow}
+use Rattle.exact.specs.Exact.{Parser}
+use Rattle.exact.specs.Choice.{choose}
+use Rattle.exact.specs.Repeat.{times}
+use Rattle.exact.specs.Fixed.{fixed, nums}
+use Rattle.exact.specs.Tiling.{join, endOf}
+use Rattle.exact.specs.Entries.{cutLeast, entry, entriesOf}
+use Rattle.enums.specs.Refusals as refusals
+use Rattle.enums.specs.declared.VersionClass.{VersionClass}
+use Rattle.format.specs.Tables.{TypeRow}
+use Rattle.format.specs.Items.{since13·3}
+use Rattle.format.specs.Sheet.{typeWords}
+use Rattle.format.specs.DecodeTypes.{partitionViewAt, oldPartitionViewAt, typeEntryAt}
+use Rattle.sheet.specs.Store.{putWords}
+use Rattle.payloads.specs.Fill.{Rows}
+use Rattle.payloads.specs.declared.fields.Spot.{Spot}
+use Rattle.payloads.specs.declared.fields.SpotRead.{SpotRead}
+use Rattle.payloads.specs.declared.fields.SpotRead.the-variants as spot
+
+-- The next word and the next byte, or a refusal.
+unfoldable pub placeOf : SpotRead → Got ℕ
+placeOf (spot.Got t) = got (t .word) (t .pos)
+placeOf (spot.Stop x) = stop (x .no) (x .at)
+
+-- The words ws that were read are put from word w on, and the answer r says where both end; a refusal is handed out.
+unfoldable pub Row : Got (List ℕ) → ℕ → List ℕ → List ℕ → SpotRead → Type 0
+Row (got ws j) w sheet sheet' r = (placeOf r ≡ got (w + length ws) j) × (sheet' ≡ putWords sheet w ws)
+Row (stop c k) w sheet sheet' r = placeOf r ≡ stop c k
+
+-- The word index stays far from wrapping while an entry is read from here on.
+unfoldable pub Spare : List ℕ → Spot → Type 0
+Spare l t = (t .pos ≤ length l) × (t .word + 3 * length l + 8 < 2 ^ 63)
+
+-- A row has at most eight words for each byte of its entry; a refusal names a place of the entry or its end.
+unfoldable pub Short : List ℕ → ℕ → SpotRead → Type 0
+Short l w (spot.Got t) = (t .pos ≤ length l) × (t .word ≤ w + 8 * length l)
+Short l w (spot.Stop x) = x .at ≤ length l
+
+-- A partition view, by the version class.
+abbrev pub partitionAt : VersionClass → Parser TypeRow
+partitionAt c = choose (Bool-discrete (since13·3 c) true) partitionViewAt oldPartitionViewAt
+
+-- The words of a row that was read.
+unfoldable pub rowWords : Got TypeRow → Got (List ℕ)
+rowWords g = follow g (λ v j. got (typeWords v) j)
+
+-- The words of rows that were read.
+unfoldable pub rowsWords : Got (List TypeRow) → Got (List ℕ)
+rowsWords g = follow g (λ vs j. got (join (map typeWords vs)) j)
+
+-- The entry from start to end of the data that begins at b (document 01, "The container": its bounds are judged and
+-- after them its fields).
+unfoldable pub entryIn : VersionClass → ℕ → ℕ → ℕ → List ℕ → Got TypeRow
+entryIn c b start end l = entry refusals.bounds (typeEntryAt c) (b + start) (cutLeast 0 start end (drop b l))
+
+-- Where entry i begins, and the one before it ends.
+unfoldable pub startOf : ℕ → ℕ → ℕ → List ℕ → ℕ
+startOf starts count i l = endOf (drop i (nums count 4 (drop starts l))) (drop (starts + count * 4) l)
+
+-- The entries from the i-th on.
+unfoldable pub entriesFrom : VersionClass → ℕ → ℕ → ℕ → List ℕ → Got (List TypeRow)
+entriesFrom c starts count i l =
+    entriesOf refusals.bounds 0 (typeEntryAt c) (drop i (nums count 4 (drop starts l))) (starts + count * 4) (length l)
+    (drop (starts + count * 4) l)
+
+-- An entry that was read lies inside the n bytes of the data, and has at most eight words for each byte.
+unfoldable pub Inside : ℕ → ℕ → ℕ → ℕ → SpotRead → Type 0
+Inside start end w n (spot.Got t) = (start ≤ end) × (end ≤ n) × (t .word ≤ w + 8 * (end - start))
+Inside start end w n (spot.Stop x) = Unit
+
+-- The rows of the Type section that were read: their number and their words; nothing goes to the pool.
+unfoldable pub typeRows : Got (List TypeRow) → Got Rows
+typeRows g = follow g (λ vs j. got (record { rows = length vs; words = join (map typeWords vs); runs = [] }) j)
+
+-- n starts and the entries that they cut out of what is left.
+unfoldable pub startsAndEntries : VersionClass → ℕ → List ℕ → ℕ → Got (List TypeRow)
+startsAndEntries c n l i =
+    follow (times n (fixed 4) l i) (λ ss j. entriesOf refusals.bounds 0 (typeEntryAt c) ss j (length l) (drop j l))

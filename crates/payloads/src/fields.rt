@@ -1,0 +1,199 @@
+// The fields of type entries, copied into the words of a row one after the other. Each step takes what the step before
+// it answered, so that a refusal is handed through.
+ghost use mathlib.Core.Path.{_≡_};
+ghost use Prim.Native.Nat.{_+_, _^_, _≤_, _<_};
+ghost use lib.ListN.{length};
+ghost use Rattle.reading.specs.Numbers.{varintAt};
+ghost use Rattle.reading.specs.Shown.{gotNum};
+ghost use Rattle.format.specs.Items.{since13·4};
+ghost use Rattle.format.specs.DecodeTypes.{flagsAt, byteIf};
+ghost use Rattle.sheet.specs.Store.{putWord};
+ghost use Rattle.payloads.specs.Fields.{numberAt, valueOf, Room, Within, Grows, Put, Copied, one, listed, numbers, fieldIf};
+use enums::VersionClass;
+use reading::ByteRead;
+use reading::NumRead;
+use reading::Reader;
+use reading::Refused;
+use reading::U32Read;
+
+// How far an entry is read and its row is filled: the next byte, the next word, and the number that was copied last (of
+// a list its count).
+pub struct Spot {
+    pub pos: usize,
+    pub word: usize,
+    pub value: u64,
+}
+
+pub enum SpotRead {
+    Got(Spot),
+    Stop(Refused),
+}
+
+// How a number stands in an entry.
+pub enum Number {
+    Varint,
+    Byte,
+    I32,
+    I64,
+}
+
+// The number that was copied last; none after a refusal.
+pub fn value_of(from: SpotRead) -> u64
+    ensures { λ r. ⌜ r ≡ valueOf from ⌝ }
+{
+    match from {
+        SpotRead::Stop(_) => 0,
+        SpotRead::Got(at) => at.value,
+    }
+}
+
+pub fn read_number(entry: &[u8], reader: Reader, number: Number) -> NumRead
+    ensures { λ r. ⌜ gotNum r ≡ numberAt number (now («entry» .entry)) (reader .pos) ⌝ }
+{
+    match number {
+        Number::Varint => reader.read_varint(entry),
+        Number::Byte => match reader.read_byte(entry) {
+            ByteRead::Stop(x) => NumRead::Stop(x),
+            ByteRead::Got(b, next) => NumRead::Got(b as u64, next),
+        },
+        Number::I32 => match reader.read_le_u32(entry) {
+            U32Read::Stop(x) => NumRead::Stop(x),
+            U32Read::Got(v, next) => NumRead::Got(v as u64, next),
+        },
+        Number::I64 => reader.read_le_u64(entry),
+    }
+}
+
+// Puts a number that takes no bytes of the entry.
+pub fn put_value(sheet: &mut [u8], value: u64, at: Spot) -> Spot
+    requires { ⌜ at .word + 1 < 2 ^ 64 ⌝ }
+    ensures { λ r. ⌜ r ≡ record { pos = at .pos; word = at .word + 1; value = value } ⌝ }
+    ensures { λ r. ⌜ now (sheet .exit) ≡ putWord (now (sheet .entry)) (at .word) value ⌝ }
+{
+    sheet::put_word(sheet, at.word, value);
+    Spot {
+        pos: at.pos,
+        word: at.word + 1,
+        value,
+    }
+}
+
+// Copies one number if it is there; else a word 0 stands for it.
+pub fn copy_field(
+    entry: &[u8],
+    there: bool,
+    number: Number,
+    sheet: &mut [u8],
+    from: SpotRead,
+) -> SpotRead
+    requires { ⌜ Room (now «entry») from ⌝ }
+    ensures { λ r. ⌜ Copied (one (fieldIf there (numberAt number))) (now («entry» .entry)) from (now (sheet .entry)) (now (sheet .exit)) r ⌝ }
+    ensures { λ r. ⌜ Grows (now («entry» .entry)) from r ⌝ }
+{
+    match from {
+        SpotRead::Stop(x) => SpotRead::Stop(x),
+        SpotRead::Got(at) => {
+            if there {
+                match read_number(entry, Reader { pos: at.pos }, number) {
+                    NumRead::Stop(x) => SpotRead::Stop(x),
+                    NumRead::Got(v, next) => SpotRead::Got(put_value(
+                        sheet,
+                        v,
+                        Spot {
+                            pos: next.pos,
+                            word: at.word,
+                            value: v,
+                        },
+                    )),
+                }
+            } else {
+                SpotRead::Got(put_value(sheet, 0, at))
+            }
+        }
+    }
+}
+
+// Copies `count` numbers.
+pub fn copy_numbers(
+    entry: &[u8],
+    number: Number,
+    sheet: &mut [u8],
+    count: u64,
+    at: Spot,
+) -> SpotRead
+    requires { ⌜ (at .pos ≤ length (now «entry»)) × (at .word + length (now «entry») ≤ 2 ^ 63) ⌝ }
+    ensures { λ r. ⌜ Put (numbers count count number (now («entry» .entry)) (at .pos)) (at .word) (now (sheet .entry)) (now (sheet .exit)) r ⌝ }
+    ensures { λ r. ⌜ Within (now («entry» .entry)) (at .pos) (at .word) 0 r ⌝ }
+{
+    let mut reader = Reader { pos: at.pos };
+    let mut word = at.word;
+    let mut left = count;
+    while 0 < left {
+        match read_number(entry, reader, number) {
+            NumRead::Stop(x) => {
+                return SpotRead::Stop(x);
+            }
+            NumRead::Got(v, next) => {
+                sheet::put_word(sheet, word, v);
+                word += 1;
+                reader = next;
+                left -= 1;
+            }
+        }
+    }
+    SpotRead::Got(Spot {
+        pos: reader.pos,
+        word,
+        value: count,
+    })
+}
+
+// Copies a counted list: its count, and its numbers.
+pub fn copy_list(entry: &[u8], number: Number, sheet: &mut [u8], from: SpotRead) -> SpotRead
+    requires { ⌜ Room (now «entry») from ⌝ }
+    ensures { λ r. ⌜ Copied (listed number) (now («entry» .entry)) from (now (sheet .entry)) (now (sheet .exit)) r ⌝ }
+    ensures { λ r. ⌜ Grows (now («entry» .entry)) from r ⌝ }
+{
+    match copy_field(entry, true, Number::Varint, sheet, from) {
+        SpotRead::Stop(x) => SpotRead::Stop(x),
+        SpotRead::Got(at) => copy_numbers(entry, number, sheet, at.value, at),
+    }
+}
+
+// Copies a varint.
+pub fn copy_number(entry: &[u8], sheet: &mut [u8], from: SpotRead) -> SpotRead
+    requires { ⌜ Room (now «entry») from ⌝ }
+    ensures { λ r. ⌜ Copied (one varintAt) (now («entry» .entry)) from (now (sheet .entry)) (now (sheet .exit)) r ⌝ }
+    ensures { λ r. ⌜ Grows (now («entry» .entry)) from r ⌝ }
+{
+    copy_field(entry, true, Number::Varint, sheet, from)
+}
+
+// Whether a version class is from 13.4 on.
+pub fn from_13_4(class: VersionClass) -> bool
+    ensures { λ r. ⌜ r ≡ since13·4 «class» ⌝ }
+{
+    match class {
+        VersionClass::Below13_3 => false,
+        VersionClass::From13_3 => false,
+        VersionClass::From13_4 => true,
+    }
+}
+
+// Copies flags that are there from 13.4 on.
+pub fn copy_flags(entry: &[u8], class: VersionClass, sheet: &mut [u8], from: SpotRead) -> SpotRead
+    requires { ⌜ Room (now «entry») from ⌝ }
+    ensures { λ r. ⌜ Copied (one (flagsAt «class»)) (now («entry» .entry)) from (now (sheet .entry)) (now (sheet .exit)) r ⌝ }
+    ensures { λ r. ⌜ Grows (now («entry» .entry)) from r ⌝ }
+{
+    copy_field(entry, from_13_4(class), Number::Varint, sheet, from)
+}
+
+// Copies a byte that is there if bit 0 of the flags is set.
+pub fn copy_byte_if(entry: &[u8], flags: u64, sheet: &mut [u8], from: SpotRead) -> SpotRead
+    requires { ⌜ Room (now «entry») from ⌝ }
+    ensures { λ r. ⌜ Copied (one (byteIf flags)) (now («entry» .entry)) from (now (sheet .entry)) (now (sheet .exit)) r ⌝ }
+    ensures { λ r. ⌜ Grows (now («entry» .entry)) from r ⌝ }
+{
+    copy_field(entry, flags % 2 == 1, Number::Byte, sheet, from)
+}

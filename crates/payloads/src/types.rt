@@ -1,0 +1,389 @@
+// The Type section: parse_type_section and decode_type_entry of decoder.rs. Each entry becomes a row of the sheet: the
+// number of words that follow, the tag, and the fields in wire order with counts before lists.
+ghost use mathlib.Core.Path.{_≡_};
+ghost use Prim.Native.Nat.{ℕ, _+_, _-_, _*_, _^_, _≤_};
+ghost use lib.ListN.{length};
+ghost use mathlib.Core.List.{List, []};
+ghost use Rattle.exact.specs.Sequence.{map};
+ghost use Rattle.format.specs.Sheet.{fieldWords, typeWords};
+ghost use Rattle.format.specs.DecodeTypes.{pointerAt, tileAt, tensorViewAt, partitionViewAt, oldPartitionViewAt, gatherScatterViewAt, stridedViewAt, functionTypeAt, fieldsAt, typeEntryAt, typesAt};
+ghost use Rattle.exact.specs.Basic.{byte};
+ghost use Rattle.format.specs.Items.{truth};
+ghost use Rattle.enums.specs.Refusals as refusals;
+ghost use Rattle.payloads.specs.declared.fields.SpotRead.the-variants as spot;
+ghost use Rattle.payloads.specs.Fields.{Within, Grows, Copied, none};
+ghost use Rattle.payloads.specs.TypeRows.{partitionAt, Row, Spare, Short, rowWords, rowsWords, entryIn, startOf, entriesFrom, Inside, typeRows, startsAndEntries};
+ghost use Rattle.payloads.specs.Fill.{Fits, Fills};
+use crate::answers::Filled;
+use crate::answers::TableRead;
+use crate::fields::Number;
+use crate::fields::Spot;
+use crate::fields::SpotRead;
+use crate::fields::copy_byte_if;
+use crate::fields::copy_field;
+use crate::fields::copy_flags;
+use crate::fields::copy_list;
+use crate::fields::copy_number;
+use crate::fields::put_value;
+use crate::fields::value_of;
+use enums::Refusal;
+use enums::TypeTag;
+use enums::VersionClass;
+use reading::ByteRead;
+use reading::NumRead;
+use reading::PaddingRead;
+use reading::Reader;
+use reading::Refused;
+use reading::U32Read;
+
+// One reader for each kind: the tag, and the fields behind it.
+fn pointer(entry: &[u8], class: VersionClass, sheet: &mut [u8], at: Spot) -> SpotRead
+    requires { ⌜ Spare (now «entry») at ⌝ }
+    ensures { λ r. ⌜ Row (map fieldWords (pointerAt «class») (now («entry» .entry)) (at .pos)) (at .word) (now (sheet .entry)) (now (sheet .exit)) r ⌝ }
+    ensures { λ r. ⌜ Within (now («entry» .entry)) (at .pos) (at .word) 7 r ⌝ }
+{
+    let tag = SpotRead::Got(put_value(sheet, TypeTag::POINTER as u64, at));
+    let flags = copy_flags(entry, class, sheet, tag);
+    let element = copy_number(entry, sheet, flags);
+    copy_byte_if(entry, value_of(flags), sheet, element)
+}
+
+fn tile(entry: &[u8], sheet: &mut [u8], at: Spot) -> SpotRead
+    requires { ⌜ Spare (now «entry») at ⌝ }
+    ensures { λ r. ⌜ Row (map fieldWords tileAt (now («entry» .entry)) (at .pos)) (at .word) (now (sheet .entry)) (now (sheet .exit)) r ⌝ }
+    ensures { λ r. ⌜ Within (now («entry» .entry)) (at .pos) (at .word) 7 r ⌝ }
+{
+    let tag = SpotRead::Got(put_value(sheet, TypeTag::TILE as u64, at));
+    let element = copy_number(entry, sheet, tag);
+    copy_list(entry, Number::I64, sheet, element)
+}
+
+fn tensor_view(entry: &[u8], class: VersionClass, sheet: &mut [u8], at: Spot) -> SpotRead
+    requires { ⌜ Spare (now «entry») at ⌝ }
+    ensures { λ r. ⌜ Row (map fieldWords (tensorViewAt «class») (now («entry» .entry)) (at .pos)) (at .word) (now (sheet .entry)) (now (sheet .exit)) r ⌝ }
+    ensures { λ r. ⌜ Within (now («entry» .entry)) (at .pos) (at .word) 7 r ⌝ }
+{
+    let tag = SpotRead::Got(put_value(sheet, TypeTag::TENSOR_VIEW as u64, at));
+    let flags = copy_flags(entry, class, sheet, tag);
+    let element = copy_number(entry, sheet, flags);
+    let shape = copy_list(entry, Number::I64, sheet, element);
+    let strides = copy_list(entry, Number::I64, sheet, shape);
+    copy_byte_if(entry, value_of(flags), sheet, strides)
+}
+
+fn partition_view(entry: &[u8], sheet: &mut [u8], at: Spot) -> SpotRead
+    requires { ⌜ Spare (now «entry») at ⌝ }
+    ensures { λ r. ⌜ Row (map fieldWords partitionViewAt (now («entry» .entry)) (at .pos)) (at .word) (now (sheet .entry)) (now (sheet .exit)) r ⌝ }
+    ensures { λ r. ⌜ Within (now («entry» .entry)) (at .pos) (at .word) 7 r ⌝ }
+{
+    let tag = SpotRead::Got(put_value(sheet, TypeTag::PARTITION_VIEW as u64, at));
+    let flags = copy_number(entry, sheet, tag);
+    let shape = copy_list(entry, Number::I32, sheet, flags);
+    let view = copy_number(entry, sheet, shape);
+    let dims = copy_list(entry, Number::I32, sheet, view);
+    copy_byte_if(entry, value_of(flags), sheet, dims)
+}
+
+// The presence byte below 13.3 (nonzero means 1): its word stands before what is read before it.
+fn read_presence(entry: &[u8], from: SpotRead) -> SpotRead
+    ensures { λ r. ⌜ ((s : List ℕ) → Copied (none (map truth byte)) (now («entry» .entry)) from s s r) ⌝ }
+    ensures { λ r. ⌜ Grows (now («entry» .entry)) from r ⌝ }
+{
+    match from {
+        SpotRead::Stop(x) => SpotRead::Stop(x),
+        SpotRead::Got(at) => match (Reader { pos: at.pos }).read_byte(entry) {
+            ByteRead::Stop(x) => SpotRead::Stop(x),
+            ByteRead::Got(b, next) => SpotRead::Got(Spot {
+                pos: next.pos,
+                word: at.word,
+                value: if b == 0 { 0 } else { 1 },
+            }),
+        },
+    }
+}
+
+// Below 13.3 the fields behind the presence's word are copied first, and the two words before them are put after that.
+fn old_partition_view(entry: &[u8], sheet: &mut [u8], at: Spot) -> SpotRead
+    requires { ⌜ Spare (now «entry») at ⌝ }
+    ensures { λ r. ⌜ Row (map fieldWords oldPartitionViewAt (now («entry» .entry)) (at .pos)) (at .word) (now (sheet .entry)) (now (sheet .exit)) r ⌝ }
+    ensures { λ r. ⌜ Within (now («entry» .entry)) (at .pos) (at .word) 7 r ⌝ }
+{
+    let begun = SpotRead::Got(Spot {
+        pos: at.pos,
+        word: at.word + 2,
+        value: 0,
+    });
+    let shape = copy_list(entry, Number::I32, sheet, begun);
+    let view = copy_number(entry, sheet, shape);
+    let dims = copy_list(entry, Number::I32, sheet, view);
+    let presence = read_presence(entry, dims);
+    let present = value_of(presence);
+    sheet::put_word(sheet, at.word + 1, present);
+    sheet::put_word(sheet, at.word, TypeTag::PARTITION_VIEW as u64);
+    copy_field(entry, present == 1, Number::Varint, sheet, presence)
+}
+
+fn gather_scatter_view(entry: &[u8], sheet: &mut [u8], at: Spot) -> SpotRead
+    requires { ⌜ Spare (now «entry») at ⌝ }
+    ensures { λ r. ⌜ Row (map fieldWords gatherScatterViewAt (now («entry» .entry)) (at .pos)) (at .word) (now (sheet .entry)) (now (sheet .exit)) r ⌝ }
+    ensures { λ r. ⌜ Within (now («entry» .entry)) (at .pos) (at .word) 7 r ⌝ }
+{
+    let tag = SpotRead::Got(put_value(sheet, TypeTag::GATHER_SCATTER_VIEW as u64, at));
+    let flags = copy_number(entry, sheet, tag);
+    let shape = copy_list(entry, Number::I32, sheet, flags);
+    let view = copy_number(entry, sheet, shape);
+    let sparse = copy_number(entry, sheet, view);
+    copy_byte_if(entry, value_of(flags), sheet, sparse)
+}
+
+fn strided_view(entry: &[u8], sheet: &mut [u8], at: Spot) -> SpotRead
+    requires { ⌜ Spare (now «entry») at ⌝ }
+    ensures { λ r. ⌜ Row (map fieldWords stridedViewAt (now («entry» .entry)) (at .pos)) (at .word) (now (sheet .entry)) (now (sheet .exit)) r ⌝ }
+    ensures { λ r. ⌜ Within (now («entry» .entry)) (at .pos) (at .word) 7 r ⌝ }
+{
+    let tag = SpotRead::Got(put_value(sheet, TypeTag::STRIDED_VIEW as u64, at));
+    let flags = copy_number(entry, sheet, tag);
+    let shape = copy_list(entry, Number::I32, sheet, flags);
+    let strides = copy_list(entry, Number::I32, sheet, shape);
+    let view = copy_number(entry, sheet, strides);
+    let dims = copy_list(entry, Number::I32, sheet, view);
+    copy_byte_if(entry, value_of(flags), sheet, dims)
+}
+
+fn function(entry: &[u8], sheet: &mut [u8], at: Spot) -> SpotRead
+    requires { ⌜ Spare (now «entry») at ⌝ }
+    ensures { λ r. ⌜ Row (map fieldWords functionTypeAt (now («entry» .entry)) (at .pos)) (at .word) (now (sheet .entry)) (now (sheet .exit)) r ⌝ }
+    ensures { λ r. ⌜ Within (now («entry» .entry)) (at .pos) (at .word) 7 r ⌝ }
+{
+    let tag = SpotRead::Got(put_value(sheet, TypeTag::FUNC as u64, at));
+    let inputs = copy_list(entry, Number::Varint, sheet, tag);
+    copy_list(entry, Number::Varint, sheet, inputs)
+}
+
+// A partition view, by the version class.
+fn any_partition_view(entry: &[u8], class: VersionClass, sheet: &mut [u8], at: Spot) -> SpotRead
+    requires { ⌜ Spare (now «entry») at ⌝ }
+    ensures { λ r. ⌜ Row (map fieldWords (partitionAt «class») (now («entry» .entry)) (at .pos)) (at .word) (now (sheet .entry)) (now (sheet .exit)) r ⌝ }
+    ensures { λ r. ⌜ Within (now («entry» .entry)) (at .pos) (at .word) 7 r ⌝ }
+{
+    match class {
+        VersionClass::Below13_3 => old_partition_view(entry, sheet, at),
+        VersionClass::From13_3 => partition_view(entry, sheet, at),
+        VersionClass::From13_4 => partition_view(entry, sheet, at),
+    }
+}
+
+// The tag and what stands behind it, by kind; a tag that is not known is refused at the entry's first byte.
+fn decode_fields(
+    entry: &[u8],
+    class: VersionClass,
+    tag: u64,
+    sheet: &mut [u8],
+    at: Spot,
+) -> SpotRead
+    requires { ⌜ Spare (now «entry») at ⌝ }
+    ensures { λ r. ⌜ Row (map fieldWords (fieldsAt «class» 0 tag) (now («entry» .entry)) (at .pos)) (at .word) (now (sheet .entry)) (now (sheet .exit)) r ⌝ }
+    ensures { λ r. ⌜ Within (now («entry» .entry)) (at .pos) (at .word) 7 r ⌝ }
+{
+    match tag {
+        0..=11 | 17..=19 | 22 | 0x82 => SpotRead::Got(put_value(sheet, tag, at)),
+        12 => pointer(entry, class, sheet, at),
+        13 => tile(entry, sheet, at),
+        14 => tensor_view(entry, class, sheet, at),
+        15 => any_partition_view(entry, class, sheet, at),
+        16 => function(entry, sheet, at),
+        20 => gather_scatter_view(entry, sheet, at),
+        21 => strided_view(entry, sheet, at),
+        _ => SpotRead::Stop(Refused {
+            no: Refusal::TYPE_TAG,
+            at: 0,
+        }),
+    }
+}
+
+// A type entry: the number of words that follow is put when they are.
+fn decode_type_entry(entry: &[u8], class: VersionClass, sheet: &mut [u8], word: usize) -> SpotRead
+    requires { ⌜ word + 8 * length (now «entry») ≤ 2 ^ 61 ⌝ }
+    ensures { λ r. ⌜ Row (map typeWords (typeEntryAt «class») (now («entry» .entry)) 0) word (now (sheet .entry)) (now (sheet .exit)) r ⌝ }
+    ensures { λ r. ⌜ Short (now («entry» .entry)) word r ⌝ }
+{
+    match (Reader { pos: 0 }).read_varint(entry) {
+        NumRead::Stop(x) => SpotRead::Stop(x),
+        NumRead::Got(tag, next) => {
+            let at = Spot {
+                pos: next.pos,
+                word: word + 1,
+                value: tag,
+            };
+            match decode_fields(entry, class, tag, sheet, at) {
+                SpotRead::Stop(x) => SpotRead::Stop(x),
+                SpotRead::Got(end) => {
+                    let count = end.word - (word + 1);
+                    sheet::put_word(sheet, word, count as u64);
+                    SpotRead::Got(Spot {
+                        pos: entry.len(),
+                        word: end.word,
+                        value: tag,
+                    })
+                }
+            }
+        }
+    }
+}
+
+// Where entry i begins in the data, and the entry before it ends: its start, or the data's end behind the last.
+fn start_at(payload: &[u8], starts: usize, count: usize, i: usize) -> usize
+    requires { ⌜ (i ≤ count) × (starts + count * 4 ≤ length (now payload)) ⌝ }
+    ensures { λ r. ⌜ r ≡ startOf starts count i (now (payload .entry)) ⌝ }
+{
+    if i < count {
+        match (Reader {
+            pos: starts + i * 4,
+        }).read_le_u32(payload) {
+            U32Read::Stop(_) => 0,
+            U32Read::Got(start, _) => start as usize,
+        }
+    } else {
+        payload.len() - (starts + count * 4)
+    }
+}
+
+// Bounds that are bad are refused at the payload's first byte.
+fn out_of_bounds() -> SpotRead
+    ensures { λ r. ⌜ r ≡ spot.Stop record { no = refusals.bounds; at = 0 } ⌝ }
+{
+    SpotRead::Stop(Refused {
+        no: Refusal::BOUNDS,
+        at: 0,
+    })
+}
+
+// The entry from start to end of the data that begins at `data`: its bounds are judged before its fields.
+fn bounded_entry(
+    payload: &[u8],
+    class: VersionClass,
+    data: usize,
+    start: usize,
+    end: usize,
+    sheet: &mut [u8],
+    word: usize,
+) -> SpotRead
+    requires { ⌜ («data» ≤ length (now payload)) × (word + 8 * (length (now payload) - («data» + start)) ≤ 2 ^ 61) ⌝ }
+    ensures { λ r. ⌜ Row (rowWords (entryIn «class» «data» start end (now (payload .entry)))) word (now (sheet .entry)) (now (sheet .exit)) r ⌝ }
+    ensures { λ r. ⌜ Inside start end word (length (now (payload .entry)) - «data») r ⌝ }
+{
+    let len = payload.len() - data;
+    if end < start {
+        return out_of_bounds();
+    }
+    if len < end {
+        return out_of_bounds();
+    }
+    let from = data + start;
+    let to = data + end;
+    match decode_type_entry(&payload[from..to], class, sheet, word) {
+        SpotRead::Stop(x) => SpotRead::Stop(Refused {
+            no: x.no,
+            at: from + x.at,
+        }),
+        SpotRead::Got(row) => SpotRead::Got(Spot {
+            pos: from + row.pos,
+            word: row.word,
+            value: row.value,
+        }),
+    }
+}
+
+// All entries: `count` starts stand from `starts` on, and the data behind them.
+fn decode_type_entries(
+    payload: &[u8],
+    class: VersionClass,
+    starts: usize,
+    count: usize,
+    sheet: &mut [u8],
+    word: usize,
+) -> SpotRead
+    requires { ⌜ (starts + count * 4 ≤ length (now payload)) × (word + 8 * length (now payload) ≤ 2 ^ 60) ⌝ }
+    ensures { λ r. ⌜ Row (rowsWords (entriesFrom «class» starts count 0 (now (payload .entry)))) word (now (sheet .entry)) (now (sheet .exit)) r ⌝ }
+{
+    let data = starts + count * 4;
+    let mut i = 0;
+    let mut start = start_at(payload, starts, count, 0);
+    let mut next = word;
+    while i < count {
+        let end = start_at(payload, starts, count, i + 1);
+        match bounded_entry(payload, class, data, start, end, sheet, next) {
+            SpotRead::Stop(x) => {
+                return SpotRead::Stop(x);
+            }
+            SpotRead::Got(row) => {
+                next = row.word;
+                start = end;
+                i += 1;
+            }
+        }
+    }
+    SpotRead::Got(Spot {
+        pos: payload.len(),
+        word: next,
+        value: count as u64,
+    })
+}
+
+// The starts and the entries behind the padding. What is left is divided by a start's width, so that a count near 2^64
+// is refused like any other, at the first start that does not fit.
+fn parse_type_rows(
+    payload: &[u8],
+    class: VersionClass,
+    first: Reader,
+    count: u64,
+    sheet: &mut [u8],
+    at: Filled,
+) -> TableRead
+    requires { ⌜ Fits at (now payload) × (first .pos ≤ length (now payload)) ⌝ }
+    ensures { λ r. ⌜ Fills at (typeRows (startsAndEntries «class» count (now (payload .entry)) (first .pos))) (now (sheet .entry)) (now (sheet .exit)) [] [] r ⌝ }
+{
+    let starts = first.pos;
+    let room = first.remaining(payload) / 4;
+    if (room as u64) < count {
+        return TableRead::Stop(Refused {
+            no: Refusal::SHORT,
+            at: starts + room * 4,
+        });
+    }
+    let count = count as usize;
+    match decode_type_entries(payload, class, starts, count, sheet, at.words) {
+        SpotRead::Stop(x) => TableRead::Stop(x),
+        SpotRead::Got(end) => TableRead::Got(
+            count,
+            Filled {
+                words: end.word,
+                bytes: at.bytes,
+            },
+        ),
+    }
+}
+
+// The Type section: its rows are put behind what is filled already.
+pub fn parse_type_section(
+    payload: &[u8],
+    class: VersionClass,
+    sheet: &mut [u8],
+    at: Filled,
+) -> TableRead
+    requires { ⌜ Fits at (now payload) ⌝ }
+    ensures { λ r. ⌜ Fills at (typeRows (typesAt «class» 0 (now (payload .entry)) 0)) (now (sheet .entry)) (now (sheet .exit)) [] [] r ⌝ }
+{
+    match (Reader { pos: 0 }).read_varint(payload) {
+        NumRead::Stop(x) => TableRead::Stop(x),
+        NumRead::Got(count, next) => {
+            if count == 0 {
+                return TableRead::Got(0, at);
+            }
+            match next.skip_padding(payload, 4) {
+                PaddingRead::Stop(x) => TableRead::Stop(x),
+                PaddingRead::Got(first) => parse_type_rows(payload, class, first, count, sheet, at),
+            }
+        }
+    }
+}
