@@ -47,7 +47,7 @@ test:
 	tools/timed "C++ tests" $(MAKE) --no-print-directory cpp-tests
 	tools/timed "sanitizers" $(MAKE) --no-print-directory sanitizers
 	tools/timed "sixty threads" $(MAKE) --no-print-directory threads
-	tools/timed "fuzzer" $(MAKE) --no-print-directory fuzz FUZZ_SECONDS=40
+	tools/timed "fuzzer" $(MAKE) --no-print-directory fuzz FUZZ_SECONDS=30
 	tools/timed "install tests" $(MAKE) --no-print-directory install-tests
 	tools/timed "reader tests" $(MAKE) --no-print-directory reader-tests
 	tools/timed "comparison with the Rust" $(MAKE) --no-print-directory comparison
