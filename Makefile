@@ -10,12 +10,13 @@
 SHELL := bash
 .SHELLFLAGS := -euo pipefail -c
 .DELETE_ON_ERROR:
-.PHONY: help demo test command bench answers verdict library cpp-tests reader-tests comparison lint clean
+.PHONY: help demo test cpp-side rust-side command bench answers verdict library cpp-tests reader-tests comparison lint
+.PHONY: clean
 
 include tools/machine.mk
 
-# Of all that is installed; hosts/rust/Cargo.toml has it too.
-VERSION := 0.1.0
+# Of all that is installed, as the C header has it; hosts/rust/Cargo.toml has it too.
+VERSION := $(shell sed -n 's/^\#define TIKOMUCI_VERSION "\(.*\)"$$/\1/p' include/tikomuci.h)
 
 # The Rust that was carried over: a folder `docs/src` beside the repository. A clone that stands alone has none.
 RUST_SOURCE ?= ../shared/docs/src
@@ -41,16 +42,22 @@ demo:
 	$(RUN) build/demo
 	$(RUN) build/example
 
+# The two sides of the hosts take a core each.
 test:
 	tools/timed "proofs, must-fail edits and programs" $(MAKE) --no-print-directory verdict
 	tools/timed "static library" $(MAKE) --no-print-directory library
-	tools/timed "C++ tests" $(MAKE) --no-print-directory cpp-tests
-	tools/timed "sanitizers" $(MAKE) --no-print-directory sanitizers
-	tools/timed "sixty threads" $(MAKE) --no-print-directory threads
-	tools/timed "fuzzer" $(MAKE) --no-print-directory fuzz FUZZ_SECONDS=30
-	tools/timed "install tests" $(MAKE) --no-print-directory install-tests
-	tools/timed "reader tests" $(MAKE) --no-print-directory reader-tests
-	tools/timed "comparison with the Rust" $(MAKE) --no-print-directory comparison
+	$(MAKE) --no-print-directory -j2 --output-sync=recurse cpp-side rust-side
+
+cpp-side:
+	tools/timed "C++ tests" $(MAKE) --no-print-directory -j1 cpp-tests
+	tools/timed "install tests" $(MAKE) --no-print-directory -j1 install-tests
+	tools/timed "sanitizers" $(MAKE) --no-print-directory -j1 sanitizers
+	tools/timed "sixty threads" $(MAKE) --no-print-directory -j1 threads
+	tools/timed "fuzzer" $(MAKE) --no-print-directory -j1 fuzz FUZZ_SECONDS=30
+
+rust-side:
+	tools/timed "reader tests" $(MAKE) --no-print-directory -j1 reader-tests
+	tools/timed "comparison with the Rust" $(MAKE) --no-print-directory -j1 comparison
 
 command: library
 	$(MAKE) --no-print-directory build/tikomuci

@@ -15,6 +15,9 @@
 extern "C" {
 #endif
 
+/* The version of this header and of its archive. */
+#define TIKOMUCI_VERSION "0.1.0"
+
 /* What a call answers. */
 typedef struct {
     uint64_t refusal; /* 0 if the call was accepted, else one of the numbers below */

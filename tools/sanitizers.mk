@@ -40,9 +40,10 @@ sanitizers: $(LIBRARY)
 	build/address/tikomuci check $(CORPUS)/file/* >/dev/null
 	ASAN_OPTIONS=detect_leaks=0 hosts/cpp/command/tests build/address/tikomuci
 
+# A thread sanitizer wants its addresses where it expects them, which random ones may not be.
 threads: $(LIBRARY)
 	$(BUILD) build/thread/threads
-	build/thread/threads $(CORPUS)/file/*
+	$(shell setarch -R true 2>/dev/null && echo setarch -R) build/thread/threads $(CORPUS)/file/*
 
 build/fuzz/corpus.o: $(HEADERS)
 build/fuzz/corpus: build/fuzz/corpus.o $(LIBRARY)

@@ -25,6 +25,7 @@ constexpr const char *HELP =
     "tikomuci check [--json] FILE..                 says of each file whether it is accepted\n"
     "tikomuci constant [--json] FILE N -o OUT       writes the bytes of constant N, counted from 0, to OUT\n"
     "tikomuci --help                                prints this\n"
+    "tikomuci --version                             prints the version\n"
     "\n"
     "With --json each file gets one line with one object.\n"
     "Exit status: 0 if all was accepted, 1 if something was refused, 2 if the command was not understood or a file\n"
@@ -36,6 +37,7 @@ struct Call {
     std::optional<std::string> out;
     bool json = false;
     bool help = false;
+    bool version = false;
 };
 
 int usage(const std::string &why) {
@@ -150,6 +152,8 @@ std::optional<Call> understood(const std::vector<std::string> &arguments) {
             call.json = true;
         } else if (word == "--help" || word == "-h") {
             call.help = true;
+        } else if (word == "--version") {
+            call.version = true;
         } else if (word == "-o" && !call.out && i + 1 < arguments.size()) {
             call.out = arguments[++i];
         } else {
@@ -186,6 +190,9 @@ int main(int count, char **arguments) {
         status = usage("an option was not understood");
     } else if (call->help) {
         say(HELP);
+        status = ACCEPTED;
+    } else if (call->version) {
+        say("tikomuci " TIKOMUCI_VERSION "\n");
         status = ACCEPTED;
     } else if (call->words.empty()) {
         status = usage("there is no command");
