@@ -88,13 +88,14 @@ unfolding andThen
 listed-then f (not-refused {v}) y = y v
 listed-then f (refused-so x) y = refused-so x
 
+pub listed-map : {A B : Type 0} {r : Read A} (f : A → B) → Listed r → Listed (mapRead f r)
+unfolding mapRead
+listed-map f not-refused = not-refused
+listed-map f (refused-so x) = refused-so x
+
 pub decode-listed : (file : List ℕ) → Listed (decode file)
-unfolding decode mapRead
-decode-listed file = go (refusals-listed file)
-  where
-    go : {r : Read Placed} → Listed r → Listed (mapRead onlyTables r)
-    go not-refused = not-refused
-    go (refused-so x) = refused-so x
+unfolding decode
+decode-listed file = listed-map onlyTables (refusals-listed file)
 
 pub row-listed : (rowsIn : Placed → Rows (List ℕ)) (file : List ℕ) (k : ℕ) → Listed (rowView rowsIn file k)
 unfolding rowView rowSpan

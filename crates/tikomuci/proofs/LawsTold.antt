@@ -17,7 +17,7 @@ use Rattle.format.specs.Refusals.{Listed, not-refused, refused-so}
 use Rattle.format.specs.Views.{Span}
 use Rattle.format.specs.Write.{Writing, writes, refuses, mostWords, starts32?, imaged}
 use Rattle.format.specs.Sheet.{sheetOf, poolOf}
-use Rattle.format.proofs.Refused.{refused-some, decode-listed, listed-then, listed-choose}
+use Rattle.format.proofs.Refused.{refused-some, decode-listed, listed-then, listed-choose, listed-map}
 use Rattle.judge.specs.Judge.{judgedBytes}
 use Rattle.sheet.specs.Store.{wordsIn}
 use Rattle.payloads.specs.declared.Need.{Need}
@@ -53,12 +53,7 @@ span-told (refused c n i) h r e z =
     absurd (omega arith)
 
 pub needs-listed : (file : List ℕ) → Listed (mapRead needOf (decode file))
-unfolding mapRead
-needs-listed file = go (decode-listed file)
-  where
-    go : {x : Read Tables} → Listed x → Listed (mapRead needOf x)
-    go not-refused = not-refused
-    go (refused-so g) = refused-so g
+needs-listed file = listed-map needOf (decode-listed file)
 
 pub reading-listed : (file : List ℕ) (words bytes : ℕ) → Listed (reading file words bytes)
 unfolding reading stored
