@@ -28,8 +28,8 @@ ANSWERS := hosts/rust/boundary/tests/data/answers.txt
 WARNINGS := -Wall -Wextra -Werror -pedantic -Wshadow -Wconversion
 CFLAGS := -std=c99 -O2 $(WARNINGS) -Iinclude
 CXXFLAGS := -std=c++20 -O2 $(WARNINGS) -Iinclude
-TESTS := $(patsubst hosts/cpp/%.cpp,build/%.o,$(wildcard hosts/cpp/*tests.cpp))
-COMMAND := $(patsubst hosts/cpp/%.cpp,build/%.o,$(wildcard hosts/cpp/command/*.cpp))
+TESTS := $(patsubst hosts/cpp/%.cpp,build/%.o,$(wildcard hosts/cpp/tests/*_tests.cpp))
+COMMAND := $(patsubst %.cpp,build/%.o,$(wildcard command/*.cpp))
 CARGO := cargo
 IN_RUST := --manifest-path hosts/rust/Cargo.toml --locked --quiet
 
@@ -71,11 +71,11 @@ library:
 	@mkdir -p build
 	tools/static-library >build/staticlib.log 2>&1 || { cat build/staticlib.log; exit 1; }
 
-cpp-tests: build/tests build/tikomuci
+cpp-tests: build/all_tests build/tikomuci
 	$(CXX) -std=c++11 $(WARNINGS) -fsyntax-only -x c++ include/tikomuci.h
 	$(CXX) $(CXXFLAGS) -fno-exceptions -fsyntax-only -x c++ include/tikomuci_tables.hpp
-	$(RUN) build/tests
-	hosts/cpp/command/tests $(RUN) build/tikomuci
+	$(RUN) build/all_tests
+	command/tests $(RUN) build/tikomuci
 
 reader-tests:
 	$(CARGO) test $(IN_RUST) --package boundary --test readers --test views --test files
@@ -106,7 +106,7 @@ endif
 
 lint:
 	rt fmt --check
-	clang-format --dry-run -Werror include/* hosts/cpp/*.c hosts/cpp/*.?pp hosts/cpp/*/*.?pp
+	clang-format --dry-run -Werror include/* command/*.?pp hosts/cpp/*/*.?pp hosts/cpp/*/*.c hosts/cpp/*/*/*.cpp
 	cargo fmt --manifest-path hosts/rust/Cargo.toml --all --check
 	$(NATIVE_CARGO) clippy $(IN_RUST) --workspace --all-targets -- -D warnings
 
@@ -116,26 +116,30 @@ clean:
 $(LIBRARY):
 	$(MAKE) --no-print-directory library
 
-build/demo build/example: build/%: build/%.o $(LIBRARY)
+build/demo build/example: build/%: build/examples/%.o $(LIBRARY)
 	$(CXX) $^ -o $@
 
-build/tests: $(TESTS) build/header.o $(LIBRARY)
+build/all_tests: $(TESTS) build/tests/header.o $(LIBRARY)
 	$(CXX) $^ -o $@
 
 build/tikomuci: $(COMMAND) $(LIBRARY)
 	$(CXX) $^ -o $@
 
-build/demo.o build/example.o $(TESTS) $(COMMAND): include/tikomuci_tables.hpp
-build/example.o: hosts/cpp/sample.hpp
-$(TESTS): hosts/cpp/check.hpp
-$(COMMAND): hosts/cpp/command/command.hpp
+build/examples/demo.o build/examples/example.o $(TESTS) $(COMMAND): include/tikomuci_tables.hpp
+build/examples/example.o: hosts/cpp/examples/sample.hpp
+$(TESTS): hosts/cpp/tests/check.hpp
+$(COMMAND): command/command.hpp
 
 build/%.o: hosts/cpp/%.cpp include/tikomuci.hpp include/tikomuci.h
 	@mkdir -p $(@D)
 	$(CXX) $(CXXFLAGS) -c $< -o $@
 
-build/header.o: hosts/cpp/header.c include/tikomuci.h
-	@mkdir -p build
+build/command/%.o: command/%.cpp include/tikomuci.hpp include/tikomuci.h
+	@mkdir -p $(@D)
+	$(CXX) $(CXXFLAGS) -c $< -o $@
+
+build/tests/header.o: hosts/cpp/tests/header.c include/tikomuci.h
+	@mkdir -p $(@D)
 	$(CC) $(CFLAGS) -c $< -o $@
 
 include packaging/install.mk

@@ -12,7 +12,7 @@ ADDRESS := -fsanitize=address,undefined -fno-sanitize-recover=all
 GUIDE := $(if $(MODULE),,-fsanitize=fuzzer-no-link)
 # By these names the kit's clang calls what the runtime of Debian's has under the plain ones only.
 TSAN_NAMES := $(foreach name,memcpy memmove memset,-Wl,--defsym=__tsan_$(name)=$(name))
-HEADERS := $(wildcard include/* hosts/cpp/*.hpp hosts/cpp/*/*.hpp)
+HEADERS := $(wildcard include/* command/*.hpp hosts/cpp/*/*.hpp)
 
 CORPUS := hosts/cpp/fuzz/corpus
 FUZZ_SECONDS ?= 60
@@ -31,14 +31,14 @@ corpus: build/fuzz/corpus
 # The corpus is what our writer makes, byte for byte. No target fails on it, and no test does. The command's tests start
 # it so often that they do without the search for leaks, which takes seconds.
 sanitizers: $(LIBRARY)
-	$(BUILD) build/fuzz/corpus $(FUZZERS) build/address/tests build/address/tikomuci
+	$(BUILD) build/fuzz/corpus $(FUZZERS) build/address/all_tests build/address/tikomuci
 	rm -rf build/fuzz/made
 	$(RUN) build/fuzz/corpus build/fuzz/made
 	diff -r build/fuzz/made $(CORPUS)
 	hosts/cpp/fuzz/run 0 $(notdir $(FUZZERS))
-	build/address/tests
+	build/address/all_tests
 	build/address/tikomuci check $(CORPUS)/file/* >/dev/null
-	ASAN_OPTIONS=detect_leaks=0 hosts/cpp/command/tests build/address/tikomuci
+	ASAN_OPTIONS=detect_leaks=0 command/tests build/address/tikomuci
 
 # A thread sanitizer wants its addresses where it expects them, which random ones may not be.
 threads: $(LIBRARY)
@@ -52,13 +52,13 @@ build/fuzz/corpus: build/fuzz/corpus.o $(LIBRARY)
 $(FUZZERS): %: %.o build/fuzzer/claims.o $(call library_with,fuzzer)
 	clang++ -fsanitize=fuzzer $(ADDRESS) $^ -o $@
 
-build/address/tests: $(TESTS:build/%=build/address/%) build/address/header.o $(call library_with,address)
+build/address/all_tests: $(TESTS:build/%=build/address/%) build/address/tests/header.o $(call library_with,address)
 	clang++ $(ADDRESS) $^ -o $@
 
 build/address/tikomuci: $(COMMAND:build/%=build/address/%) $(call library_with,address)
 	clang++ $(ADDRESS) $^ -o $@
 
-build/thread/threads: build/thread/threads.o $(call library_with,thread)
+build/thread/threads: build/thread/tests/threads.o $(call library_with,thread)
 	clang++ -fsanitize=thread $(TSAN_NAMES) $^ -o $@
 
 build/fuzzer/tikomuci.o: $(MODULE) tools/instrumented
@@ -75,7 +75,11 @@ build/address/%.o: hosts/cpp/%.cpp $(HEADERS)
 	@mkdir -p $(@D)
 	clang++ -std=c++20 $(SANITIZED) $(ADDRESS) -c $< -o $@
 
-build/address/header.o: hosts/cpp/header.c include/tikomuci.h
+build/address/command/%.o: command/%.cpp $(HEADERS)
+	@mkdir -p $(@D)
+	clang++ -std=c++20 $(SANITIZED) $(ADDRESS) -c $< -o $@
+
+build/address/tests/header.o: hosts/cpp/tests/header.c include/tikomuci.h
 	@mkdir -p $(@D)
 	clang -std=c99 $(SANITIZED) $(ADDRESS) -c $< -o $@
 

@@ -8,7 +8,7 @@
 #include <cstdlib>
 #include <limits>
 
-#include "../check.hpp"
+#include "../tests/check.hpp"
 #include "tikomuci_tables.hpp"
 
 namespace fuzz {

@@ -11,7 +11,7 @@
 #include <string>
 #include <vector>
 
-#include "../draft.hpp"
+#include "../tests/draft.hpp"
 #include "tikomuci_tables.hpp"
 
 namespace {
