@@ -86,9 +86,11 @@ cpp-tests: build/all_tests build/tikomuci
 emulated-tests: build/x86-64/all_tests build/x86-64/tikomuci
 	tools/timed "C++ tests, x86-64" $(RUN) build/x86-64/all_tests
 	tools/timed "command tests, x86-64" command/tests $(RUN) build/x86-64/tikomuci
+	tools/timed "reader tests, x86-64" $(X86_64_CARGO) $(READER_TESTS)
 
+READER_TESTS := test $(IN_RUST) --package boundary --package plain --lib --tests
 reader-tests: $(LIBRARY) | build/setup
-	tools/timed "reader tests" cargo test $(IN_RUST) --package boundary --package plain --lib --tests
+	tools/timed "reader tests" cargo $(READER_TESTS)
 
 comparison: $(X86_64_LIBRARY) | build/setup
 ifneq ($(HAS_RUST),)

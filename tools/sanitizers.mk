@@ -48,7 +48,7 @@ $(FUZZERS): build/fuzzer/%: build/fuzzer/fuzz/%.o $(CLAIMS) build/fuzzer/tikomuc
 	$(link) -fsanitize=fuzzer
 
 # By these names the kit's clang calls what the runtime of an older clang has under the plain ones only.
-TSAN = $(shell nm "$$($(cxx) -print-file-name=libclang_rt.tsan-$(MACHINE).a)" | sed -n 's/.* T __tsan_//p')
+TSAN = $(shell nm "$$($(cxx) -print-file-name=libclang_rt.tsan-$(MACHINE).a)" 2>/dev/null | sed -n 's/.* T __tsan_//p')
 TSAN_NAMES = $(foreach name,$(filter-out $(TSAN),memcpy memmove memset),-Wl,--defsym=__tsan_$(name)=$(name))
 build/thread/threads: build/thread/tests/threads.o build/thread/tikomuci.o
 	$(link) $(TSAN_NAMES)
