@@ -70,9 +70,9 @@ int show(const Call &call) {
     }
     const auto tables = tikomuci::read(file.bytes());
     if (!tables) {
-        return refused(call, name, tables.outcome);
+        return refused(call, name, tables.outcome());
     }
-    say(call.json ? command::json_of(name, tables.value.sheet) : command::text_of(tables.value.sheet));
+    say(call.json ? command::json_of(name, tables->sheet) : command::text_of(tables->sheet));
     return ACCEPTED;
 }
 
@@ -83,9 +83,9 @@ int check_one(const Call &call, const std::string &name) {
     }
     const auto size = tikomuci::measure(file.bytes());
     if (!size) {
-        return refused(call, name, size.outcome);
+        return refused(call, name, size.outcome());
     }
-    say(call.json ? command::json_of(name, size.value) : name + ": accepted\n");
+    say(call.json ? command::json_of(name, *size) : name + ": accepted\n");
     return ACCEPTED;
 }
 
@@ -120,11 +120,11 @@ int constant(const Call &call, std::uint64_t index) {
     }
     const auto view = tikomuci::constant(file.bytes(), index);
     if (!view) {
-        return refused(call, name, view.outcome);
+        return refused(call, name, view.outcome());
     }
-    const auto offset = static_cast<std::uint64_t>(view.value.data() - file.bytes().data());
-    const std::size_t length = view.value.size();
-    const int status = write_out(*call.out, view.value);
+    const auto offset = static_cast<std::uint64_t>(view->data() - file.bytes().data());
+    const std::size_t length = view->size();
+    const int status = write_out(*call.out, *view);
     if (call.json && status == ACCEPTED) {
         say(command::json_of_constant(name, index, offset, length));
     }

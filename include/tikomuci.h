@@ -11,6 +11,13 @@
 #include <stddef.h>
 #include <stdint.h>
 
+/* No call throws. */
+#if defined(__cplusplus) && __cplusplus >= 201103L
+#define TIKOMUCI_NOEXCEPT noexcept
+#else
+#define TIKOMUCI_NOEXCEPT
+#endif
+
 #ifdef __cplusplus
 extern "C" {
 #endif
@@ -76,52 +83,55 @@ enum {
  */
 
 /* One byte. */
-tikomuci_answer tikomuci_write_byte(uint8_t *out, size_t len, uint64_t at, uint8_t value);
+tikomuci_answer tikomuci_write_byte(uint8_t *out, size_t len, uint64_t at, uint8_t value) TIKOMUCI_NOEXCEPT;
 
 /* The `data_len` bytes of `data`. */
-tikomuci_answer tikomuci_write_bytes(uint8_t *out, size_t len, uint64_t at, const uint8_t *data, size_t data_len);
+tikomuci_answer tikomuci_write_bytes(uint8_t *out, size_t len, uint64_t at, const uint8_t *data,
+                                     size_t data_len) TIKOMUCI_NOEXCEPT;
 
 /* A varint in its shortest spelling: seven bits a byte, low first, the top bit means more. */
-tikomuci_answer tikomuci_write_varint(uint8_t *out, size_t len, uint64_t at, uint64_t value);
+tikomuci_answer tikomuci_write_varint(uint8_t *out, size_t len, uint64_t at, uint64_t value) TIKOMUCI_NOEXCEPT;
 
 /* A signed varint: the zigzag of the value as a varint. */
-tikomuci_answer tikomuci_write_signed_varint(uint8_t *out, size_t len, uint64_t at, int64_t value);
+tikomuci_answer tikomuci_write_signed_varint(uint8_t *out, size_t len, uint64_t at, int64_t value) TIKOMUCI_NOEXCEPT;
 
 /* Numbers of a fixed width, little-endian. */
-tikomuci_answer tikomuci_write_le_u8(uint8_t *out, size_t len, uint64_t at, uint8_t value);
-tikomuci_answer tikomuci_write_le_u16(uint8_t *out, size_t len, uint64_t at, uint16_t value);
-tikomuci_answer tikomuci_write_le_u32(uint8_t *out, size_t len, uint64_t at, uint32_t value);
-tikomuci_answer tikomuci_write_le_u64(uint8_t *out, size_t len, uint64_t at, uint64_t value);
-tikomuci_answer tikomuci_write_le_i32(uint8_t *out, size_t len, uint64_t at, int32_t value);
-tikomuci_answer tikomuci_write_le_i64(uint8_t *out, size_t len, uint64_t at, int64_t value);
+tikomuci_answer tikomuci_write_le_u8(uint8_t *out, size_t len, uint64_t at, uint8_t value) TIKOMUCI_NOEXCEPT;
+tikomuci_answer tikomuci_write_le_u16(uint8_t *out, size_t len, uint64_t at, uint16_t value) TIKOMUCI_NOEXCEPT;
+tikomuci_answer tikomuci_write_le_u32(uint8_t *out, size_t len, uint64_t at, uint32_t value) TIKOMUCI_NOEXCEPT;
+tikomuci_answer tikomuci_write_le_u64(uint8_t *out, size_t len, uint64_t at, uint64_t value) TIKOMUCI_NOEXCEPT;
+tikomuci_answer tikomuci_write_le_i32(uint8_t *out, size_t len, uint64_t at, int32_t value) TIKOMUCI_NOEXCEPT;
+tikomuci_answer tikomuci_write_le_i64(uint8_t *out, size_t len, uint64_t at, int64_t value) TIKOMUCI_NOEXCEPT;
 
 /* Floats by their bits, little-endian. */
-tikomuci_answer tikomuci_write_le_f32(uint8_t *out, size_t len, uint64_t at, uint32_t bits);
-tikomuci_answer tikomuci_write_le_f64(uint8_t *out, size_t len, uint64_t at, uint64_t bits);
+tikomuci_answer tikomuci_write_le_f32(uint8_t *out, size_t len, uint64_t at, uint32_t bits) TIKOMUCI_NOEXCEPT;
+tikomuci_answer tikomuci_write_le_f64(uint8_t *out, size_t len, uint64_t at, uint64_t bits) TIKOMUCI_NOEXCEPT;
 
 /* A float attribute of type F64: its 64 bits as a signed varint. */
-tikomuci_answer tikomuci_write_ap_float_f64(uint8_t *out, size_t len, uint64_t at, uint64_t f64_bits);
+tikomuci_answer tikomuci_write_ap_float_f64(uint8_t *out, size_t len, uint64_t at, uint64_t f64_bits) TIKOMUCI_NOEXCEPT;
 
 /* A float attribute of an 8-bit type: one byte, the code nearest to the f64 that has these bits. */
-tikomuci_answer tikomuci_write_ap_float_f8e4m3fn(uint8_t *out, size_t len, uint64_t at, uint64_t f64_bits);
-tikomuci_answer tikomuci_write_ap_float_f8e5m2(uint8_t *out, size_t len, uint64_t at, uint64_t f64_bits);
+tikomuci_answer tikomuci_write_ap_float_f8e4m3fn(uint8_t *out, size_t len, uint64_t at,
+                                                 uint64_t f64_bits) TIKOMUCI_NOEXCEPT;
+tikomuci_answer tikomuci_write_ap_float_f8e5m2(uint8_t *out, size_t len, uint64_t at,
+                                               uint64_t f64_bits) TIKOMUCI_NOEXCEPT;
 
 /* A counted array: the count as a varint, then the numbers, little-endian. */
 tikomuci_answer tikomuci_write_le_var_size_i32(uint8_t *out, size_t len, uint64_t at, const int32_t *values,
-                                               size_t count);
+                                               size_t count) TIKOMUCI_NOEXCEPT;
 tikomuci_answer tikomuci_write_le_var_size_i64(uint8_t *out, size_t len, uint64_t at, const int64_t *values,
-                                               size_t count);
+                                               size_t count) TIKOMUCI_NOEXCEPT;
 
 /*
  * Padding bytes (0xCB) up to the next multiple of `alignment`; none if it is below 2. It need not be a power of two.
  * `required_alignment` is the largest alignment asked for so far, 1 at the start; `second` is what it is afterwards.
  */
 tikomuci_answer tikomuci_align_to(uint8_t *out, size_t len, uint64_t at, uint64_t required_alignment,
-                                  uint64_t alignment);
+                                  uint64_t alignment) TIKOMUCI_NOEXCEPT;
 
 /* Overwrites the number at `offset`, little-endian. Outside the buffer: 14. `first` is the place after it. */
-tikomuci_answer tikomuci_patch_u32(uint8_t *buf, size_t len, uint64_t offset, uint32_t value);
-tikomuci_answer tikomuci_patch_u64(uint8_t *buf, size_t len, uint64_t offset, uint64_t value);
+tikomuci_answer tikomuci_patch_u32(uint8_t *buf, size_t len, uint64_t offset, uint32_t value) TIKOMUCI_NOEXCEPT;
+tikomuci_answer tikomuci_patch_u64(uint8_t *buf, size_t len, uint64_t offset, uint64_t value) TIKOMUCI_NOEXCEPT;
 
 /*
  * Readers: each reads at the place `at` of `len` bytes. `first` is the value, a signed one as its bit pattern in its
@@ -129,38 +139,39 @@ tikomuci_answer tikomuci_patch_u64(uint8_t *buf, size_t len, uint64_t offset, ui
  */
 
 /* One byte. */
-tikomuci_answer tikomuci_read_byte(const uint8_t *data, size_t len, uint64_t at);
+tikomuci_answer tikomuci_read_byte(const uint8_t *data, size_t len, uint64_t at) TIKOMUCI_NOEXCEPT;
 
 /* The next `n` bytes: `first` is the offset of the first of them. */
-tikomuci_answer tikomuci_read_bytes(const uint8_t *data, size_t len, uint64_t at, uint64_t n);
+tikomuci_answer tikomuci_read_bytes(const uint8_t *data, size_t len, uint64_t at, uint64_t n) TIKOMUCI_NOEXCEPT;
 
 /* A varint of at most ten bytes, not only the shortest spelling. A tenth byte with the top bit is refused (3). */
-tikomuci_answer tikomuci_read_varint(const uint8_t *data, size_t len, uint64_t at);
+tikomuci_answer tikomuci_read_varint(const uint8_t *data, size_t len, uint64_t at) TIKOMUCI_NOEXCEPT;
 
 /* A signed varint: `first` has the 64 bits of the value. */
-tikomuci_answer tikomuci_read_signed_varint(const uint8_t *data, size_t len, uint64_t at);
+tikomuci_answer tikomuci_read_signed_varint(const uint8_t *data, size_t len, uint64_t at) TIKOMUCI_NOEXCEPT;
 
 /* Numbers of a fixed width, little-endian. */
-tikomuci_answer tikomuci_read_le_u8(const uint8_t *data, size_t len, uint64_t at);
-tikomuci_answer tikomuci_read_le_u16(const uint8_t *data, size_t len, uint64_t at);
-tikomuci_answer tikomuci_read_le_u32(const uint8_t *data, size_t len, uint64_t at);
-tikomuci_answer tikomuci_read_le_u64(const uint8_t *data, size_t len, uint64_t at);
-tikomuci_answer tikomuci_read_le_i32(const uint8_t *data, size_t len, uint64_t at);
-tikomuci_answer tikomuci_read_le_i64(const uint8_t *data, size_t len, uint64_t at);
+tikomuci_answer tikomuci_read_le_u8(const uint8_t *data, size_t len, uint64_t at) TIKOMUCI_NOEXCEPT;
+tikomuci_answer tikomuci_read_le_u16(const uint8_t *data, size_t len, uint64_t at) TIKOMUCI_NOEXCEPT;
+tikomuci_answer tikomuci_read_le_u32(const uint8_t *data, size_t len, uint64_t at) TIKOMUCI_NOEXCEPT;
+tikomuci_answer tikomuci_read_le_u64(const uint8_t *data, size_t len, uint64_t at) TIKOMUCI_NOEXCEPT;
+tikomuci_answer tikomuci_read_le_i32(const uint8_t *data, size_t len, uint64_t at) TIKOMUCI_NOEXCEPT;
+tikomuci_answer tikomuci_read_le_i64(const uint8_t *data, size_t len, uint64_t at) TIKOMUCI_NOEXCEPT;
 
 /* Padding bytes up to the next multiple of `alignment`: `first` is how many. A byte that is not 0xCB is refused (5). */
-tikomuci_answer tikomuci_skip_padding(const uint8_t *data, size_t len, uint64_t at, uint64_t alignment);
+tikomuci_answer tikomuci_skip_padding(const uint8_t *data, size_t len, uint64_t at,
+                                      uint64_t alignment) TIKOMUCI_NOEXCEPT;
 
 /* A counted array: `first` is the count, and the numbers are the count times 4 or 8 bytes before `second`. */
-tikomuci_answer tikomuci_read_le_var_size_i32(const uint8_t *data, size_t len, uint64_t at);
-tikomuci_answer tikomuci_read_le_var_size_i64(const uint8_t *data, size_t len, uint64_t at);
+tikomuci_answer tikomuci_read_le_var_size_i32(const uint8_t *data, size_t len, uint64_t at) TIKOMUCI_NOEXCEPT;
+tikomuci_answer tikomuci_read_le_var_size_i64(const uint8_t *data, size_t len, uint64_t at) TIKOMUCI_NOEXCEPT;
 
 /* How many bytes stand at `at` and after it; 0 past the end. */
-uint64_t tikomuci_remaining(const uint8_t *data, size_t len, uint64_t at);
+uint64_t tikomuci_remaining(const uint8_t *data, size_t len, uint64_t at) TIKOMUCI_NOEXCEPT;
 
 /* The 8-bit code nearest to the f64 that has these bits, ties to the even code. */
-uint8_t tikomuci_f8e4m3fn(uint64_t f64_bits);
-uint8_t tikomuci_f8e5m2(uint64_t f64_bits);
+uint8_t tikomuci_f8e4m3fn(uint64_t f64_bits) TIKOMUCI_NOEXCEPT;
+uint8_t tikomuci_f8e5m2(uint64_t f64_bits) TIKOMUCI_NOEXCEPT;
 
 /*
  * Whole files of Tile IR bytecode.
@@ -175,7 +186,7 @@ uint8_t tikomuci_f8e5m2(uint64_t f64_bits);
  */
 
 /* How large the stores have to be: `first` is the sheet's words (of 8 bytes each), `second` the pool's bytes. */
-tikomuci_answer tikomuci_measure(const uint8_t *file, size_t file_len);
+tikomuci_answer tikomuci_measure(const uint8_t *file, size_t file_len) TIKOMUCI_NOEXCEPT;
 
 /*
  * The tables of a file, with the answer of tikomuci_measure. The sheet's store is lent as bytes and counts its whole
@@ -184,22 +195,22 @@ tikomuci_answer tikomuci_measure(const uint8_t *file, size_t file_len);
  * byte behind the result.
  */
 tikomuci_answer tikomuci_read(const uint8_t *file, size_t file_len, uint8_t *sheet, size_t sheet_len, uint8_t *pool,
-                              size_t pool_len);
+                              size_t pool_len) TIKOMUCI_NOEXCEPT;
 
 /*
  * The string, the constant or the body of the function that has this number, counted from 0: `first` is its offset in
  * the file, `second` its length. A number that no row has is 14 at stage 10, after all refusals of the file.
  */
-tikomuci_answer tikomuci_string(const uint8_t *file, size_t file_len, uint64_t index);
-tikomuci_answer tikomuci_constant(const uint8_t *file, size_t file_len, uint64_t index);
-tikomuci_answer tikomuci_body(const uint8_t *file, size_t file_len, uint64_t index);
+tikomuci_answer tikomuci_string(const uint8_t *file, size_t file_len, uint64_t index) TIKOMUCI_NOEXCEPT;
+tikomuci_answer tikomuci_constant(const uint8_t *file, size_t file_len, uint64_t index) TIKOMUCI_NOEXCEPT;
+tikomuci_answer tikomuci_body(const uint8_t *file, size_t file_len, uint64_t index) TIKOMUCI_NOEXCEPT;
 
 /*
  * The whole payload that counts for a section id, which is the last one with that id: `first` is its offset in the
  * file, `second` its length. Only the header and the walk over the sections are judged: 1 at stage 0, 2 and 4 at stage
  * 1, 2, 3 and 5 at stage 2. An id that is not there is 14 at stage 10.
  */
-tikomuci_answer tikomuci_section(const uint8_t *file, size_t file_len, uint64_t id);
+tikomuci_answer tikomuci_section(const uint8_t *file, size_t file_len, uint64_t id) TIKOMUCI_NOEXCEPT;
 
 /*
  * Writing a file, the image of a sheet and a pool, and saying how large it is judge the whole sheet. It is lent as
@@ -212,14 +223,14 @@ tikomuci_answer tikomuci_section(const uint8_t *file, size_t file_len, uint64_t 
  * How large the output has to be: `first` is the image's bytes, `second` is 0. No pool is lent: word 4 is compared with
  * the sum of the row lengths only.
  */
-tikomuci_answer tikomuci_image(const uint8_t *sheet, size_t sheet_len);
+tikomuci_answer tikomuci_image(const uint8_t *sheet, size_t sheet_len) TIKOMUCI_NOEXCEPT;
 
 /*
  * The image of a sheet and a pool, with the answer of tikomuci_image. A refused call changes nothing, and an accepted
  * one changes no byte of the output behind the image.
  */
 tikomuci_answer tikomuci_write(const uint8_t *sheet, size_t sheet_len, const uint8_t *pool, size_t pool_len,
-                               uint8_t *out, size_t out_len);
+                               uint8_t *out, size_t out_len) TIKOMUCI_NOEXCEPT;
 
 #ifdef __cplusplus
 }

@@ -564,20 +564,23 @@ struct Tables {
 [[nodiscard]] inline Got<Tables> read(Bytes file) {
     const Got<Size> size = measure(file);
     if (!size) {
-        return {size.outcome, {}};
+        return size.outcome();
     }
     Tables tables;
-    tables.words.resize(size.value.words);
-    tables.pool.resize(size.value.bytes);
+    tables.words.resize(size->words);
+    tables.pool.resize(size->bytes);
     const Output words(reinterpret_cast<std::uint8_t *>(tables.words.data()),
                        tables.words.size() * sizeof(std::uint64_t));
     const Got<Size> filled = read(file, words, tables.pool);
-    std::optional<Sheet> sheet = filled ? Sheet::open(tables.words, tables.pool) : std::nullopt;
+    if (!filled) {
+        return filled.outcome();
+    }
+    std::optional<Sheet> sheet = Sheet::open(tables.words, tables.pool);
     if (!sheet) {
-        return {filled ? Outcome{TIKOMUCI_REFUSAL_SHEET, TIKOMUCI_STAGE_CALL} : filled.outcome, {}};
+        return Outcome{TIKOMUCI_REFUSAL_SHEET, TIKOMUCI_STAGE_CALL};
     }
     tables.sheet = std::move(*sheet);
-    return {{}, std::move(tables)};
+    return tables;
 }
 
 }  // namespace tikomuci

@@ -94,11 +94,11 @@ void show_globals(const Sheet &sheet) {
 // The view is a part of the file, exactly the bytes of that constant.
 void show_constant(Bytes file, std::uint64_t i) {
     const auto view = tikomuci::constant(file, i);
-    must(view.outcome);
-    std::cout << "\nconstant " << i << ": " << view.value.size() << " bytes from offset "
-              << view.value.data() - file.data() << " of the file on" << std::hex << std::setfill('0');
-    for (std::size_t at = 0; at < view.value.size(); ++at) {
-        std::cout << (at % 16 == 0 ? "\n  " : " ") << std::setw(2) << unsigned{view.value[at]};
+    must(view.outcome());
+    std::cout << "\nconstant " << i << ": " << view->size() << " bytes from offset " << view->data() - file.data()
+              << " of the file on" << std::hex << std::setfill('0');
+    for (std::size_t at = 0; at < view->size(); ++at) {
+        std::cout << (at % 16 == 0 ? "\n  " : " ") << std::setw(2) << unsigned{(*view)[at]};
     }
     std::cout << std::dec << std::setfill(' ') << "\n";
 }
@@ -106,8 +106,8 @@ void show_constant(Bytes file, std::uint64_t i) {
 // Shows the tables, and then the constant that was asked for; if none was, the first one, where there is one.
 void show(const File &file, std::optional<std::uint64_t> asked) {
     const auto tables = tikomuci::read(file);
-    must(tables.outcome);
-    const Sheet &sheet = tables.value.sheet;
+    must(tables.outcome());
+    const Sheet &sheet = tables->sheet;
     std::cout << "Tile IR bytecode " << unsigned{sheet.version().major} << "." << unsigned{sheet.version().minor}
               << ", made by " << (sheet.producer() ? name(sheet, *sheet.producer()) : "(not said)") << "\n"
               << sheet.functions() << " functions, " << sheet.globals() << " globals, " << sheet.constants()

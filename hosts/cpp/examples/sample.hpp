@@ -54,9 +54,9 @@ inline File sample() {
 
     const tikomuci::Bytes words = tikomuci::bytes_of(std::span(sheet));
     const auto size = tikomuci::image(words);
-    must(size.outcome);
-    File file(size.value);
-    must(tikomuci::write(words, pool, file).outcome);
+    must(size.outcome());
+    File file(*size);
+    must(tikomuci::write(words, pool, file).outcome());
     return file;
 }
 

@@ -53,8 +53,8 @@ using Payloads = std::array<std::optional<Bytes>, TIKOMUCI_SECTION_PRODUCER + 1>
 void pass_padding(tikomuci::Reader &reader, std::uint64_t alignment) {
     const std::uint64_t size = alignment < 2 ? 0 : (alignment - reader.tell() % alignment) % alignment;
     const auto padding = reader.bytes(size);
-    claim(padding && std::all_of(padding.value.begin(), padding.value.end(),
-                                 [](std::uint8_t byte) { return byte == ALIGNMENT_BYTE; }),
+    claim(padding &&
+              std::all_of(padding->begin(), padding->end(), [](std::uint8_t byte) { return byte == ALIGNMENT_BYTE; }),
           "a section with an alignment stands behind its padding");
 }
 
@@ -62,12 +62,12 @@ void pass_padding(tikomuci::Reader &reader, std::uint64_t alignment) {
 Payloads walk(Bytes file) {
     Payloads last;
     tikomuci::Reader reader(file, HEADER);
-    for (unsigned head = reader.byte().value; (head & 0x7FU) != 0; head = reader.byte().value) {
-        const std::uint64_t length = reader.varint().value;
+    for (unsigned head = reader.byte().value_or(0); (head & 0x7FU) != 0; head = reader.byte().value_or(0)) {
+        const std::uint64_t length = reader.varint().value_or(0);
         if ((head & 0x80U) != 0) {
-            pass_padding(reader, reader.varint().value);
+            pass_padding(reader, reader.varint().value_or(0));
         }
-        const Bytes payload = reader.bytes(length).value;
+        const Bytes payload = reader.bytes(length).value_or(Bytes{});
         if (const unsigned id = head & 0x7FU; id < last.size()) {
             last[id] = payload;
         }
@@ -112,8 +112,8 @@ void rows(Bytes file, View view, std::uint64_t id, std::uint64_t count, Row row)
 void accepted(Bytes file, Size size) {
     const Stores stores = read_whole(file, size);
     const auto tables = tikomuci::read(file);
-    claim(tables.outcome == Outcome{}, "the tables of an accepted file can be opened");
-    const tikomuci::Sheet &sheet = tables.value.sheet;
+    claim(tables.outcome() == Outcome{}, "the tables of an accepted file can be opened");
+    const tikomuci::Sheet &sheet = tables->sheet;
     rows(file, tikomuci_string, TIKOMUCI_SECTION_STRING, sheet.strings(),
          [&](std::uint64_t i) { return sheet.string(i).value(); });
     rows(file, tikomuci_constant, TIKOMUCI_SECTION_CONSTANT, sheet.constants(),
@@ -125,14 +125,14 @@ void accepted(Bytes file, Size size) {
 
 // All calls that judge a whole file refuse it alike, whether there is room for a result or not.
 void refused(Bytes file, const tikomuci::Got<Size> &measured) {
-    claim(known(measured.outcome), "a file is refused with a number that the stage has");
-    claim(measured.value == Size{}, "a refused file has no size");
+    claim(known(measured.outcome()), "a file is refused with a number that the stage has");
+    claim(!measured, "a refused file has no size");
     for (const std::size_t room : std::initializer_list<std::size_t>{0, 4 * file.size()}) {
-        read_refused(file, 8 * room, room, measured.outcome);
+        read_refused(file, 8 * room, room, measured.outcome());
     }
     for (const View view : {tikomuci_string, tikomuci_constant, tikomuci_body}) {
         for (const std::uint64_t number : {std::uint64_t{0}, std::uint64_t{1}, FAR}) {
-            view_refused(file, view, number, measured.outcome);
+            view_refused(file, view, number, measured.outcome());
         }
     }
 }
@@ -142,9 +142,9 @@ void refused(Bytes file, const tikomuci::Got<Size> &measured) {
 extern "C" int LLVMFuzzerTestOneInput(const std::uint8_t *data, std::size_t size) {
     const Bytes file(data, size);
     const auto measured = tikomuci::measure(file);
-    sections(file, measured.outcome);
+    sections(file, measured.outcome());
     if (measured) {
-        accepted(file, measured.value);
+        accepted(file, *measured);
     } else {
         refused(file, measured);
     }

@@ -20,12 +20,12 @@ constexpr std::size_t LONGEST_POOL = 4096;
 // What a sheet says its pool's length is; nothing if it is too short to say so.
 std::optional<std::uint64_t> pool_length(Bytes sheet) {
     const auto word = tikomuci::Reader(sheet, 8 * POOL_LENGTH_WORD).le_u64();
-    return word ? std::optional(word.value) : std::nullopt;
+    return word ? std::optional(*word) : std::nullopt;
 }
 
 Stores handed(Bytes input) {
     const Bytes rest = input.subspan(HEAD);
-    const std::size_t size = std::min<std::size_t>(rest.size(), tikomuci::Reader(input, 1).le_u16().value);
+    const std::size_t size = std::min<std::size_t>(rest.size(), tikomuci::Reader(input, 1).le_u16().value_or(0));
     const auto end = rest.begin() + static_cast<std::ptrdiff_t>(size);
     Stores stores{Wire(rest.begin(), end), Wire(end, rest.end())};
     const std::uint64_t length = pool_length(stores.sheet).value_or(0);
@@ -41,12 +41,11 @@ Outcome wanted_of(const Stores &stores, Outcome measured) {
 }
 
 void judged(const tikomuci::Got<std::uint64_t> &measured) {
-    const bool known = measured || measured.outcome.refusal == TIKOMUCI_REFUSAL_SHEET ||
-                       measured.outcome.refusal == TIKOMUCI_REFUSAL_START ||
-                       measured.outcome.refusal == TIKOMUCI_REFUSAL_LIMIT;
+    const bool known = measured || measured.outcome().refusal == TIKOMUCI_REFUSAL_SHEET ||
+                       measured.outcome().refusal == TIKOMUCI_REFUSAL_START ||
+                       measured.outcome().refusal == TIKOMUCI_REFUSAL_LIMIT;
     claim(known, "a sheet is refused with 12, 13 or 1");
-    claim(measured.outcome.stage == (measured ? 0 : TIKOMUCI_STAGE_CALL), "a sheet is refused at stage 10");
-    claim(measured || measured.value == 0, "a refused sheet has no size");
+    claim(measured.outcome().stage == (measured ? 0 : TIKOMUCI_STAGE_CALL), "a sheet is refused at stage 10");
 }
 
 }  // namespace
@@ -59,7 +58,7 @@ extern "C" int LLVMFuzzerTestOneInput(const std::uint8_t *data, std::size_t size
     const Stores lent = stores;
     const auto measured = tikomuci::image(lent.sheet);
     judged(measured);
-    const Outcome wanted = wanted_of(lent, measured.outcome);
+    const Outcome wanted = wanted_of(lent, measured.outcome());
     if (wanted) {
         written_and_back(lent.sheet, lent.pool);
     } else {

@@ -67,7 +67,7 @@ struct Draft {
         const Wire words = little_endian(sheet());
         const Wire bytes = pool();
         const auto size = tikomuci::image(words);
-        Wire image(size.value);
+        Wire image(size.value_or(0));
         if (!size || !tikomuci::write(words, bytes, image)) {
             throw std::logic_error("a draft that is not well-formed");
         }

@@ -52,8 +52,8 @@ void reads_into(const Case &c, std::size_t shift, std::size_t room, std::size_t 
     const auto size = tikomuci::read(c.file, Output(sheet).subspan(shift, room), Output(pool).subspan(3, pool_room));
     const std::string where = c.what + ", read into " + std::to_string(room) + " and " + std::to_string(pool_room) +
                               " bytes at " + std::to_string(shift);
-    expect(size.outcome == (fits ? Outcome{} : FULL), where + ": the outcome");
-    expect(size.value == (fits ? Size{c.sheet.size(), c.pool.size()} : Size{}), where + ": the sizes");
+    expect(size.outcome() == (fits ? Outcome{} : FULL), where + ": the outcome");
+    expect(size.value_or(Size{}) == (fits ? Size{c.sheet.size(), c.pool.size()} : Size{}), where + ": the sizes");
     expect(sheet == wanted_sheet, where + ": the sheet");
     expect(pool == wanted_pool, where + ": the pool");
 }
@@ -71,7 +71,7 @@ std::vector<std::size_t> rooms_around(std::size_t need, std::size_t unit) {
 void stores() {
     for (const Case &c : cases()) {
         const auto size = tikomuci::measure(c.file);
-        expect(size && size.value == Size{c.sheet.size(), c.pool.size()}, c.what + ", measured");
+        expect(size && *size == Size{c.sheet.size(), c.pool.size()}, c.what + ", measured");
         for (const std::size_t room : rooms_around(c.sheet.size() * 8, 8)) {
             for (const std::size_t pool_room : rooms_around(c.pool.size(), 1)) {
                 reads_into(c, 0, room, pool_room);
@@ -91,12 +91,12 @@ void views(const std::string &what, View view, const Wire &file,
            const std::vector<std::array<std::size_t, 2>> &places) {
     for (std::size_t i = 0; i < places.size(); ++i) {
         const auto row = view(file, i);
-        expect(row && row.value.data() == file.data() + places[i][0] && row.value.size() == places[i][1],
+        expect(row && row->data() == file.data() + places[i][0] && row->size() == places[i][1],
                what + " " + std::to_string(i));
     }
     for (const std::uint64_t index : {std::uint64_t{places.size()}, std::uint64_t{places.size()} + 1,
                                       std::uint64_t{1} << 32, std::uint64_t{1} << 61, FAR}) {
-        expect(view(file, index).outcome == ABSENT, what + " " + std::to_string(index) + " is not there");
+        expect(view(file, index).outcome() == ABSENT, what + " " + std::to_string(index) + " is not there");
     }
 }
 
@@ -114,7 +114,7 @@ void row_views() {
 Outcome judged(const std::string &what, const Wire &file) {
     Wire sheet(1024, CANARY);
     Wire pool(1024, CANARY);
-    const Outcome outcome = tikomuci::measure(file).outcome;
+    const Outcome outcome = tikomuci::measure(file).outcome();
     const tikomuci_answer answers[] = {
         tikomuci_measure(file.data(), file.size()),
         tikomuci_read(file.data(), file.size(), sheet.data(), sheet.size(), pool.data(), pool.size()),
@@ -188,7 +188,7 @@ void cut_files() {
     Wire longer = file;
     longer.insert(longer.end(), {0xFF, 0xFF, 0xFF});
     const auto size = tikomuci::measure(longer);
-    expect(size && size.value == Size{49, 12}, "bytes behind the end marker are not read");
+    expect(size && *size == Size{49, 12}, "bytes behind the end marker are not read");
 }
 
 // An empty span may come as a null pointer.
@@ -218,7 +218,7 @@ void null_spans() {
 }
 
 bool overlapping(Bytes file, Output sheet, Output pool) {
-    return tikomuci::read(file, sheet, pool).outcome == tikomuci::OVERLAPPING;
+    return tikomuci::read(file, sheet, pool).outcome() == tikomuci::OVERLAPPING;
 }
 
 void overlapping_stores() {

@@ -133,45 +133,46 @@ constexpr std::array<std::uint64_t, 6> WORDS = {
 // The view of a row has the bytes that the row has in the pool, inside the file.
 void same_row(const std::string &what, Bytes file, const tikomuci::Got<Bytes> &view, std::optional<Bytes> row) {
     if (!row) {
-        expect(view.outcome == ABSENT, what + " is not there");
+        expect(view.outcome() == ABSENT, what + " is not there");
         return;
     }
-    expect(view && view.value.size() == row->size() && std::equal(row->begin(), row->end(), view.value.begin()), what);
-    expect(view.value.data() >= file.data() && view.value.data() + view.value.size() <= file.data() + file.size(),
+    const Bytes seen = view.value_or(Bytes{});
+    expect(view && std::equal(row->begin(), row->end(), seen.begin(), seen.end()), what);
+    expect(view && seen.data() >= file.data() && seen.data() + seen.size() <= file.data() + file.size(),
            what + " lies in the file");
 }
 
 // A file at a guard through measure and the views, which a refused file refuses alike.
 Outcome judged(const std::string &what, Bytes file) {
     const auto tables = tikomuci::read(file);
-    const tikomuci::Sheet &sheet = tables.value.sheet;
-    expect(tikomuci::measure(file).outcome == tables.outcome, what + ": measured as read");
+    expect(tikomuci::measure(file).outcome() == tables.outcome(), what + ": measured as read");
     for (const std::uint64_t index : {std::uint64_t{0}, std::uint64_t{1}, std::numeric_limits<std::uint64_t>::max()}) {
         const auto string = tikomuci::string(file, index);
         const auto constant = tikomuci::constant(file, index);
         const auto body = tikomuci::body(file, index);
         const std::string row = " " + std::to_string(index) + " of " + what;
         if (tables) {
+            const tikomuci::Sheet &sheet = tables->sheet;
             const auto function = sheet.function(index);
             same_row("string" + row, file, string, sheet.string(index));
             same_row("constant" + row, file, constant, sheet.constant(index));
             same_row("body" + row, file, body, function ? std::optional(function->body) : std::nullopt);
         } else {
-            expect(string.outcome == tables.outcome && constant.outcome == tables.outcome &&
-                       body.outcome == tables.outcome,
+            expect(string.outcome() == tables.outcome() && constant.outcome() == tables.outcome() &&
+                       body.outcome() == tables.outcome(),
                    "row" + row + ": the refusal");
         }
     }
-    return tables.outcome;
+    return tables.outcome();
 }
 
 // Stores of just the size at a guard, and stores that are one word or one byte too small.
 void read_between(Memories &memories, const std::string &what, Bytes file, Side side) {
     const auto size = tikomuci::measure(file);
-    Wire sheet(size.value.words * 8);
-    Wire pool(size.value.bytes);
-    const Outcome wanted = tikomuci::read(file, sheet, pool).outcome;
-    expect(wanted == size.outcome, what + ": read as measured");
+    Wire sheet(size.value_or(Size{}).words * 8);
+    Wire pool(size.value_or(Size{}).bytes);
+    const Outcome wanted = tikomuci::read(file, sheet, pool).outcome();
+    expect(wanted == size.outcome(), what + ": read as measured");
     for (const std::size_t less : {std::size_t{0}, std::size_t{1}}) {
         for (const std::size_t pool_less : {std::size_t{0}, std::size_t{1}}) {
             const std::size_t room = sheet.size() - std::min(sheet.size(), 8 * less);
@@ -180,7 +181,7 @@ void read_between(Memories &memories, const std::string &what, Bytes file, Side 
             const Output sheet_place = memories.sheet.store(room, side);
             const Output pool_place = memories.pool.store(pool_room, side);
             const auto got = tikomuci::read(file, sheet_place, pool_place);
-            expect(got.outcome == (fits || !wanted ? wanted : FULL), what + ": the outcome");
+            expect(got.outcome() == (fits || !wanted ? wanted : FULL), what + ": the outcome");
             const bool filled = fits && wanted;
             expect(memories.sheet.holds(sheet_place, filled ? sheet : Wire{}), what + ": the sheet");
             expect(memories.pool.holds(pool_place, filled ? pool : Wire{}), what + ": the pool");
@@ -235,15 +236,15 @@ Outcome written_between(Memories &memories, const std::string &what, const Wire 
     const Bytes sheet = memories.sheet.lent(words, side);
     const Bytes pool = memories.pool.lent(bytes, side);
     const auto size = tikomuci::image(sheet);
-    Wire image(size.value);
-    const Outcome wanted = tikomuci::write(sheet, pool, image).outcome;
-    expect(wanted == size.outcome, what + ": written as measured");
+    Wire image(size.value_or(0));
+    const Outcome wanted = tikomuci::write(sheet, pool, image).outcome();
+    expect(wanted == size.outcome(), what + ": written as measured");
     for (const std::size_t less : {std::size_t{0}, std::size_t{1}}) {
         const std::size_t room = image.size() - std::min(image.size(), less);
         const bool fits = room == image.size();
         const Output place = memories.file.store(room, side);
         const auto got = tikomuci::write(sheet, pool, place);
-        expect(got.outcome == (fits || !wanted ? wanted : FULL), what + ": the outcome");
+        expect(got.outcome() == (fits || !wanted ? wanted : FULL), what + ": the outcome");
         expect(memories.file.holds(place, fits && wanted ? image : Wire{}), what + ": the image");
     }
     Wire sheet_again(words.size());
@@ -296,21 +297,21 @@ void limits() {
     }
     const Bytes file(static_cast<const std::uint8_t *>(memory), most + 1);
     const Outcome limit{TIKOMUCI_REFUSAL_LIMIT, TIKOMUCI_STAGE_LIMITS};
-    expect(tikomuci::measure(file).outcome == limit, "a file over the limit is not measured");
-    expect(tikomuci::read(file, {}, {}).outcome == limit, "a file over the limit is not read");
-    expect(tikomuci::string(file, 0).outcome == limit, "no string of a file over the limit");
-    expect(tikomuci::constant(file, 0).outcome == limit, "no constant of a file over the limit");
-    expect(tikomuci::body(file, 0).outcome == limit, "no body of a file over the limit");
+    expect(tikomuci::measure(file).outcome() == limit, "a file over the limit is not measured");
+    expect(tikomuci::read(file, {}, {}).outcome() == limit, "a file over the limit is not read");
+    expect(tikomuci::string(file, 0).outcome() == limit, "no string of a file over the limit");
+    expect(tikomuci::constant(file, 0).outcome() == limit, "no constant of a file over the limit");
+    expect(tikomuci::body(file, 0).outcome() == limit, "no body of a file over the limit");
     const std::size_t most_words = std::size_t{1} << 26;
     const Outcome handed{TIKOMUCI_REFUSAL_LIMIT, TIKOMUCI_STAGE_CALL};
-    expect(tikomuci::image(file.first(8 * (most_words + 1))).outcome == handed, "a sheet over the limit, measured");
-    expect(tikomuci::write(file.first(8 * (most_words + 1)), {}, {}).outcome == handed, "a sheet over the limit");
-    expect(tikomuci::write({}, file, {}).outcome == handed, "a pool over the limit comes before its sheet");
+    expect(tikomuci::image(file.first(8 * (most_words + 1))).outcome() == handed, "a sheet over the limit, measured");
+    expect(tikomuci::write(file.first(8 * (most_words + 1)), {}, {}).outcome() == handed, "a sheet over the limit");
+    expect(tikomuci::write({}, file, {}).outcome() == handed, "a pool over the limit comes before its sheet");
     expect(mprotect(memory, most + 1, PROT_READ) == 0, "a file of zeros");
-    expect(tikomuci::measure(file.first(most)).outcome == Outcome{TIKOMUCI_REFUSAL_MAGIC, TIKOMUCI_STAGE_HEADER},
+    expect(tikomuci::measure(file.first(most)).outcome() == Outcome{TIKOMUCI_REFUSAL_MAGIC, TIKOMUCI_STAGE_HEADER},
            "a file at the limit is read");
-    expect(tikomuci::image(file.first(8 * most_words)).outcome == SHEET, "a sheet at the limit is judged");
-    expect(tikomuci::write({}, file.first(most), {}).outcome == SHEET, "a pool at the limit is taken");
+    expect(tikomuci::image(file.first(8 * most_words)).outcome() == SHEET, "a sheet at the limit is judged");
+    expect(tikomuci::write({}, file.first(most), {}).outcome() == SHEET, "a pool at the limit is taken");
     munmap(memory, most + 1);
 }
 

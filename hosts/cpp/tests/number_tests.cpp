@@ -63,15 +63,15 @@ void reads(const std::string &what, const Wire &wire, Value value, Read read) {
         const auto got = read(reader);
         const std::string where = what + " in " + std::to_string(size) + " bytes";
         if (size == wire.size()) {
-            expect(got && got.value == value, where + ": the value");
+            expect(got && *got == value, where + ": the value");
             expect(reader.tell() == size && reader.remaining() == 0, where + ": the next place");
         } else {
-            expect(got.outcome == SHORT, where + ": the outcome");
+            expect(got.outcome() == SHORT, where + ": the outcome");
             expect(reader.tell() == 0 && reader.remaining() == size, where + ": the place stays");
         }
     }
     Reader past(wire, wire.size() + 1);
-    expect(read(past).outcome == SHORT && past.remaining() == 0, what + " past the data");
+    expect(read(past).outcome() == SHORT && past.remaining() == 0, what + " past the data");
 }
 
 void marked_table() {
@@ -80,7 +80,7 @@ void marked_table() {
     const auto varint = [](Reader &r) { return r.varint(); };
     reads("(c) nine FF then 01", nine(0xFF, 0x01), std::numeric_limits<std::uint64_t>::max(), varint);
     reads("(d) nine 80 then 7F", nine(0x80, 0x7F), std::uint64_t{1} << 63, varint);
-    expect(Reader(nine(0xFF, 0x81)).varint().outcome == OVERLONG, "(e) nine FF then 81");
+    expect(Reader(nine(0xFF, 0x81)).varint().outcome() == OVERLONG, "(e) nine FF then 81");
     writes("(f) signed varint -1", {0x01}, [](Writer &w) { return w.signed_varint(-1); });
     const double infinity = std::numeric_limits<double>::infinity();
     expect(tikomuci::f8e4m3fn(0x3p-10) == 0x02, "(g) E4M3FN of 3 * 2^-10");
@@ -143,22 +143,22 @@ void runs_and_arrays() {
 
     Reader narrow_reader(narrow_wire);
     const auto got_narrow = narrow_reader.le_var_size_i32();
-    expect(got_narrow && got_narrow.value.size() == 8 && got_narrow.value.data() == narrow_wire.data() + 1 &&
+    expect(got_narrow && got_narrow->size() == 8 && got_narrow->data() == narrow_wire.data() + 1 &&
                narrow_reader.tell() == 9,
            "i32 array read");
     const auto got_wide = Reader(wide_wire).le_var_size_i64();
-    expect(got_wide && got_wide.value.size() == 8 && got_wide.value.data() == wide_wire.data() + 1, "i64 array read");
-    expect(Reader(narrow_wire).le_var_size_i64().outcome == SHORT, "i64 array cut short");
-    expect(Reader(nine(0xFF, 0x01)).le_var_size_i64().outcome == SHORT, "array whose size would wrap");
-    expect(Reader(nine(0xFF, 0x81)).le_var_size_i32().outcome == OVERLONG, "array whose count is no varint");
+    expect(got_wide && got_wide->size() == 8 && got_wide->data() == wide_wire.data() + 1, "i64 array read");
+    expect(Reader(narrow_wire).le_var_size_i64().outcome() == SHORT, "i64 array cut short");
+    expect(Reader(nine(0xFF, 0x01)).le_var_size_i64().outcome() == SHORT, "array whose size would wrap");
+    expect(Reader(nine(0xFF, 0x81)).le_var_size_i32().outcome() == OVERLONG, "array whose count is no varint");
 
     const auto run = Reader(data, 1).bytes(2);
-    expect(run && run.value.data() == data.data() + 1 && run.value.size() == 2, "two bytes read");
-    expect(Reader(data, 1).bytes(3).outcome == SHORT, "three bytes where two are left");
-    expect(Reader(data, 1).bytes(std::numeric_limits<std::uint64_t>::max()).outcome == SHORT,
+    expect(run && run->data() == data.data() + 1 && run->size() == 2, "two bytes read");
+    expect(Reader(data, 1).bytes(3).outcome() == SHORT, "three bytes where two are left");
+    expect(Reader(data, 1).bytes(std::numeric_limits<std::uint64_t>::max()).outcome() == SHORT,
            "a run whose end would wrap");
     const auto none = Reader(data, 3).bytes(0);
-    expect(none && none.value.empty(), "no bytes at the end");
+    expect(none && none->empty(), "no bytes at the end");
 }
 
 void padding() {
@@ -176,11 +176,11 @@ void padding() {
     Wire wire = {0, 0xCB, 0xCB, 0xCB, 9};
     Reader reader(wire, 1);
     const auto passed_over = reader.skip_padding(4);
-    expect(passed_over && passed_over.value == 3 && reader.tell() == 4, "three padding bytes");
-    expect(Reader(Bytes(wire).first(3), 1).skip_padding(4).outcome == SHORT, "padding cut short");
+    expect(passed_over && *passed_over == 3 && reader.tell() == 4, "three padding bytes");
+    expect(Reader(Bytes(wire).first(3), 1).skip_padding(4).outcome() == SHORT, "padding cut short");
     wire[2] = 0xCA;
-    expect(Reader(wire, 1).skip_padding(4).outcome == PADDING, "a wrong padding byte");
-    expect(Reader(Bytes(wire).first(3), 1).skip_padding(4).outcome == PADDING, "a wrong byte before the end");
+    expect(Reader(wire, 1).skip_padding(4).outcome() == PADDING, "a wrong padding byte");
+    expect(Reader(Bytes(wire).first(3), 1).skip_padding(4).outcome() == PADDING, "a wrong byte before the end");
 }
 
 void patches() {
@@ -202,20 +202,20 @@ void patches() {
 Outcome damaged(std::size_t place, std::uint8_t byte) {
     Wire file = whole_case();
     file[place] = byte;
-    return tikomuci::section(file, TIKOMUCI_SECTION_STRING).outcome;
+    return tikomuci::section(file, TIKOMUCI_SECTION_STRING).outcome();
 }
 
 void section_views() {
     const Wire file = whole_case();
     const auto strings = tikomuci::section(file, TIKOMUCI_SECTION_STRING);
-    expect(strings && strings.value.data() == file.data() + 16 && strings.value.size() == 15, "the String section");
+    expect(strings && strings->data() == file.data() + 16 && strings->size() == 15, "the String section");
     for (const std::uint64_t id : std::initializer_list<std::uint64_t>{0, 2, 3, 4, 5, 6, 7, 8, 127}) {
-        expect(tikomuci::section(file, id).outcome == ABSENT, "section " + std::to_string(id) + " is not there");
+        expect(tikomuci::section(file, id).outcome() == ABSENT, "section " + std::to_string(id) + " is not there");
     }
-    expect(tikomuci::section(file, std::numeric_limits<std::uint64_t>::max()).outcome == ABSENT, "a far section id");
+    expect(tikomuci::section(file, std::numeric_limits<std::uint64_t>::max()).outcome() == ABSENT, "a far section id");
     for (std::size_t size = 0; size < file.size(); ++size) {
         const std::uint64_t stage = size < 12 ? TIKOMUCI_STAGE_HEADER : TIKOMUCI_STAGE_SECTIONS;
-        expect(tikomuci::section(Bytes(file).first(size), TIKOMUCI_SECTION_STRING).outcome ==
+        expect(tikomuci::section(Bytes(file).first(size), TIKOMUCI_SECTION_STRING).outcome() ==
                    Outcome{TIKOMUCI_REFUSAL_SHORT, stage},
                "a file cut to " + std::to_string(size) + " bytes");
     }

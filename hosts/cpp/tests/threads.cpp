@@ -35,7 +35,7 @@ bool same(Bytes a, Bytes b) { return std::equal(a.begin(), a.end(), b.begin(), b
 // What one reading gets. It is done once before the threads start, and by each of them.
 Shared read(Wire file) {
     Shared got{std::move(file), {}, {}, {}, {}};
-    got.size = tikomuci::measure(got.file).value;
+    got.size = tikomuci::measure(got.file).value_or(tikomuci::Size{});
     got.sheet.resize(got.size.words * 8);
     got.pool.resize(got.size.bytes);
     if (!tikomuci::read(got.file, got.sheet, got.pool)) {
@@ -70,7 +70,7 @@ bool same_tables(const Shared &shared) {
     Wire pool(shared.pool.size());
     const auto measured = tikomuci::measure(shared.file);
     const auto size = tikomuci::read(shared.file, sheet, pool);
-    return measured && size && measured.value == shared.size && size.value == shared.size && sheet == shared.sheet &&
+    return measured && size && *measured == shared.size && *size == shared.size && sheet == shared.sheet &&
            pool == shared.pool;
 }
 
@@ -78,7 +78,7 @@ bool same_sections(const Shared &shared) {
     for (std::uint64_t id = 1; id <= SECTIONS; ++id) {
         const auto &wanted = shared.sections[id - 1];
         const auto got = tikomuci::section(shared.file, id);
-        if (got.outcome != wanted.outcome || !same(got.value, wanted.value)) {
+        if (got.outcome() != wanted.outcome() || !same(got.value_or(Bytes{}), wanted.value_or(Bytes{}))) {
             return false;
         }
     }
@@ -86,7 +86,7 @@ bool same_sections(const Shared &shared) {
 }
 
 bool same_image(const Shared &shared) {
-    Wire image(tikomuci::image(shared.sheet).value);
+    Wire image(tikomuci::image(shared.sheet).value_or(0));
     return tikomuci::write(shared.sheet, shared.pool, image) && image == shared.file;
 }
 
@@ -94,8 +94,8 @@ bool own_rows(Bytes file, std::uint64_t number) {
     const auto string = tikomuci::string(file, number);
     const auto constant = tikomuci::constant(file, number);
     const auto body = tikomuci::body(file, number);
-    return string && same(string.value, row('s', number)) && constant && same(constant.value, row('c', number)) &&
-           body && same(body.value, row('b', number));
+    return string && same(*string, row('s', number)) && constant && same(*constant, row('c', number)) && body &&
+           same(*body, row('b', number));
 }
 
 // How many of the rounds of a thread got something else.
