@@ -150,7 +150,7 @@ struct Fields {
 
 void type(Json &json, const Sheet &sheet, std::uint64_t i) {
     if (const auto row = sheet.type(i)) {
-        json.open('{').key("kind").text(tikomuci::type_name(static_cast<std::uint64_t>(row->tag)));
+        json.open('{').key("kind").text(tikomuci::type_name(row->tag));
         std::visit(Fields{json}, row->kind);
         json.close('}');
     }
@@ -173,7 +173,7 @@ void function(Json &json, const Sheet &sheet, std::uint64_t i) {
 
 void attribute(Json &json, const Sheet &sheet, std::uint64_t i) {
     if (const auto row = sheet.attribute(i)) {
-        json.open('{').key("kind").text(tikomuci::DEBUG_NAMES[static_cast<std::size_t>(row->tag)]);
+        json.open('{').key("kind").text(tikomuci::debug_name(row->tag));
         json.list("fields", row->fields).close('}');
     }
 }
@@ -200,22 +200,26 @@ std::string json_of(std::string_view file, const Sheet &sheet) {
     const tikomuci::Version version = sheet.version();
     json.key("version").open('{').number("major", unsigned{version.major}).number("minor", unsigned{version.minor});
     json.number("tag", unsigned{version.tag}).close('}').optional("producer", sheet.producer());
-    table(json, "strings", sheet.strings(), [&](std::uint64_t i) { json.text(sheet.string(i).value_or(Bytes{})); });
-    table(json, "types", sheet.types(), [&](std::uint64_t i) { type(json, sheet, i); });
-    table(json, "constants", sheet.constants(), [&](std::uint64_t i) {
+    table(json, "strings", sheet.strings().size(),
+          [&](std::uint64_t i) { json.text(sheet.string(i).value_or(Bytes{})); });
+    table(json, "types", sheet.types().size(), [&](std::uint64_t i) { type(json, sheet, i); });
+    table(json, "constants", sheet.constants().size(), [&](std::uint64_t i) {
         json.open('{').number("length", sheet.constant(i).value_or(Bytes{}).size()).close('}');
     });
-    table(json, "globals", sheet.globals(), [&](std::uint64_t i) { global(json, sheet, i); });
-    table(json, "functions", sheet.functions(), [&](std::uint64_t i) { function(json, sheet, i); });
-    table(json, "attributes", sheet.attributes(), [&](std::uint64_t i) { attribute(json, sheet, i); });
-    table(json, "lists", sheet.lists(), [&](std::uint64_t i) { json.list(sheet.list(i).value_or(tikomuci::Words{})); });
+    table(json, "globals", sheet.globals().size(), [&](std::uint64_t i) { global(json, sheet, i); });
+    table(json, "functions", sheet.functions().size(), [&](std::uint64_t i) { function(json, sheet, i); });
+    table(json, "attributes", sheet.attributes().size(), [&](std::uint64_t i) { attribute(json, sheet, i); });
+    table(json, "lists", sheet.lists().size(),
+          [&](std::uint64_t i) { json.list(sheet.list(i).value_or(tikomuci::Words{})); });
     return json.close('}').line();
 }
 
 std::string json_of(std::string_view file, tikomuci::Outcome refused) {
     Json json = begun(file, false);
-    json.number("refusal", refused.refusal).key("refusal_name").text(tikomuci::refusal_name(refused.refusal));
-    json.number("stage", refused.stage).key("stage_name").text(tikomuci::stage_name(refused.stage));
+    json.number("refusal", number_of(refused.refusal))
+        .key("refusal_name")
+        .text(tikomuci::refusal_name(refused.refusal));
+    json.number("stage", number_of(refused.stage)).key("stage_name").text(tikomuci::stage_name(refused.stage));
     return json.close('}').line();
 }
 

@@ -72,7 +72,7 @@ int show(const Call &call) {
     if (!tables) {
         return refused(call, name, tables.outcome());
     }
-    say(call.json ? command::json_of(name, tables->sheet) : command::text_of(tables->sheet));
+    say(call.json ? command::json_of(name, tables->sheet()) : command::text_of(tables->sheet()));
     return ACCEPTED;
 }
 

@@ -68,7 +68,7 @@ std::string type_named(const Sheet &sheet, std::uint64_t i) {
         return "<no type " + number(i) + ">";
     }
     if (std::holds_alternative<tikomuci::Scalar>(type->kind)) {
-        return std::string(tikomuci::type_name(static_cast<std::uint64_t>(type->tag)));
+        return std::string(tikomuci::type_name(type->tag));
     }
     return "#" + number(i);
 }
@@ -105,9 +105,7 @@ struct Described {
         return dims(shape, "x") + (shape.empty() ? "" : "x") + type_named(sheet, element);
     }
 
-    std::string operator()(const tikomuci::Scalar &) const {
-        return std::string(tikomuci::type_name(static_cast<std::uint64_t>(tag)));
-    }
+    std::string operator()(const tikomuci::Scalar &) const { return std::string(tikomuci::type_name(tag)); }
 
     std::string operator()(const tikomuci::Pointer &t) const {
         return "ptr<" + type_named(sheet, t.element) + optional("ptr_attr", t.attribute) + ">";
@@ -207,7 +205,7 @@ constexpr std::array<std::array<Label, 6>, 7> LABELS = {{
 std::string attribute_line(const Sheet &sheet, std::uint64_t i) {
     const tikomuci::Attribute a = sheet.attribute(i).value_or(tikomuci::Attribute{});
     const auto tag = static_cast<std::size_t>(a.tag);
-    std::string text(tikomuci::DEBUG_NAMES[tag]);
+    std::string text(tikomuci::debug_name(a.tag));
     for (std::size_t n = 0; n < a.fields.size(); ++n) {
         const Label label = LABELS[tag][n];
         text += n == 0 ? "(" : ", ";
@@ -271,10 +269,11 @@ std::size_t utf8_size(Bytes bytes) {
 
 std::string refusal_line(tikomuci::Outcome outcome) {
     std::string text = "refused: " + std::string(tikomuci::refusal_text(outcome.refusal));
-    if (outcome.stage != TIKOMUCI_STAGE_CALL) {
+    if (outcome.stage != tikomuci::Stage::Call) {
         text += ", " + std::string(tikomuci::stage_text(outcome.stage));
     }
-    return text + " (refusal " + number(outcome.refusal) + ", stage " + number(outcome.stage) + ")";
+    return text + " (refusal " + number(number_of(outcome.refusal)) + ", stage " + number(number_of(outcome.stage)) +
+           ")";
 }
 
 std::string text_of(const Sheet &sheet) {
@@ -282,13 +281,13 @@ std::string text_of(const Sheet &sheet) {
     if (const auto producer = sheet.producer()) {
         text += "produced by " + string_named(sheet, *producer) + "\n";
     }
-    table(text, "strings", sheet, sheet.strings(), string_line);
-    table(text, "types", sheet, sheet.types(), type_line);
-    table(text, "constants", sheet, sheet.constants(), constant_line);
-    table(text, "globals", sheet, sheet.globals(), global_line);
-    table(text, "functions", sheet, sheet.functions(), function_line);
-    table(text, "debug attributes", sheet, sheet.attributes(), attribute_line, 1);
-    table(text, "debug lists", sheet, sheet.lists(), list_line);
+    table(text, "strings", sheet, sheet.strings().size(), string_line);
+    table(text, "types", sheet, sheet.types().size(), type_line);
+    table(text, "constants", sheet, sheet.constants().size(), constant_line);
+    table(text, "globals", sheet, sheet.globals().size(), global_line);
+    table(text, "functions", sheet, sheet.functions().size(), function_line);
+    table(text, "debug attributes", sheet, sheet.attributes().size(), attribute_line, 1);
+    table(text, "debug lists", sheet, sheet.lists().size(), list_line);
     return text;
 }
 
