@@ -73,7 +73,7 @@ library:
 
 cpp-tests: build/all_tests build/tikomuci
 	$(CXX) -std=c++11 $(WARNINGS) -fsyntax-only -x c++ include/tikomuci.h
-	$(CXX) $(CXXFLAGS) -fno-exceptions -fsyntax-only -x c++ include/tikomuci_tables.hpp
+	for standard in c++17 c++20; do hosts/cpp/tests/must-not-compile $(CXX) -std=$$standard; done
 	$(RUN) build/all_tests
 	command/tests $(RUN) build/tikomuci
 
@@ -125,18 +125,21 @@ build/all_tests: $(TESTS) build/tests/header.o $(LIBRARY)
 build/tikomuci: $(COMMAND) $(LIBRARY)
 	$(CXX) $^ -o $@
 
-build/examples/demo.o build/examples/example.o $(TESTS) $(COMMAND): include/tikomuci_tables.hpp
+build/examples/demo.o build/examples/example.o $(TESTS) $(COMMAND): $(wildcard include/*.hpp)
 build/examples/example.o: hosts/cpp/examples/sample.hpp
-$(TESTS): hosts/cpp/tests/check.hpp
+$(TESTS): $(wildcard hosts/cpp/tests/*.hpp)
 $(COMMAND): command/command.hpp
 
 build/%.o: hosts/cpp/%.cpp include/tikomuci.hpp include/tikomuci.h
 	@mkdir -p $(@D)
-	$(CXX) $(CXXFLAGS) -c $< -o $@
+	$(CXX) $(CXXFLAGS) $(ONLY) -c $< -o $@
 
 build/command/%.o: command/%.cpp include/tikomuci.hpp include/tikomuci.h
 	@mkdir -p $(@D)
 	$(CXX) $(CXXFLAGS) -c $< -o $@
+
+# What the headers are to C++17 is in one program with what they are to C++20.
+build/tests/cxx17_tests.o build/address/tests/cxx17_tests.o: private ONLY := -std=c++17 -fno-exceptions
 
 build/tests/header.o: hosts/cpp/tests/header.c include/tikomuci.h
 	@mkdir -p $(@D)

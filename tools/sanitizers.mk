@@ -73,7 +73,7 @@ build/fuzzer/%.o: hosts/cpp/fuzz/%.cpp $(HEADERS)
 
 build/address/%.o: hosts/cpp/%.cpp $(HEADERS)
 	@mkdir -p $(@D)
-	clang++ -std=c++20 $(SANITIZED) $(ADDRESS) -c $< -o $@
+	clang++ -std=c++20 $(SANITIZED) $(ADDRESS) $(ONLY) -c $< -o $@
 
 build/address/command/%.o: command/%.cpp $(HEADERS)
 	@mkdir -p $(@D)

@@ -30,12 +30,12 @@ using tikomuci::Stage;
 
 constexpr int CAUGHT = 42;
 
-// Whether a child that does this touches memory that nothing may touch.
+// Whether a child that does this is stopped by a signal.
 template <typename Touch>
-bool ends(Touch touch) {
+bool ends(Touch touch, int by = SIGSEGV) {
     const pid_t child = fork();
     if (child == 0) {
-        std::signal(SIGSEGV, [](int) { _exit(CAUGHT); });
+        std::signal(by, [](int) { _exit(CAUGHT); });
         touch();
         _exit(EXIT_SUCCESS);
     }
@@ -61,6 +61,25 @@ void guards_hold() {
            "a pool store that is smaller than was said");
     const Bytes endless = memory.lent(Wire(file.begin(), file.end() - 1), Side::End);
     expect(ends([&] { static_cast<void>(tikomuci_measure(endless.data(), 32)); }), "a file shorter than was said");
+}
+
+// A refusal that is walked past is an assertion that fails. What it says is not for these tests.
+void refusals_assert() {
+    const Wire file = whole_case();
+    const auto size = tikomuci::measure(file);
+    const auto view = tikomuci::constant(file, 0);
+    const auto quietly = [](auto look) {
+        return [look] {
+            std::freopen("/dev/null", "w", stderr);
+            look();
+        };
+    };
+    expect(!ends(quietly([&] { static_cast<void>(size->words); }), SIGABRT), "the value of an acceptance");
+    expect(ends(quietly([&] { static_cast<void>(view->size()); }), SIGABRT), "a refusal by ->");
+    expect(ends(quietly([&] { static_cast<void>(*view); }), SIGABRT), "a refusal by *");
+    expect(ends(quietly([] { static_cast<void>(tikomuci::Got<Bytes>(Outcome{})); }), SIGABRT),
+           "no refusal and no value");
+    expect(view.value_or(Bytes(file)).size() == file.size(), "another value in the place of a refusal");
 }
 
 struct Memories {
@@ -317,6 +336,7 @@ void limits() {
 
 void guard_tests() {
     guards_hold();
+    refusals_assert();
     whole_files();
     damaged_files();
     handed_sheets();

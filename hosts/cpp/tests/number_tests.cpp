@@ -17,7 +17,11 @@ extern "C" const char *header_fault(void);
 void file_tests();
 void table_tests();
 void write_tests();
+void builder_tests();
 void guard_tests();
+void memory_tests();
+void cxx17_tests();
+void released_tests();
 
 namespace {
 
@@ -332,7 +336,11 @@ int main() {
     file_tests();
     table_tests();
     write_tests();
+    builder_tests();
     guard_tests();
+    memory_tests();
+    cxx17_tests();
+    released_tests();
     null_pointers();
     overlapping_spans();
     std::printf("C++ host: %d checks passed, %d failed\n", passed, failed);
