@@ -9,6 +9,7 @@
 #include <array>
 #include <csignal>
 #include <cstdlib>
+#include <initializer_list>
 #include <optional>
 #include <string>
 #include <vector>
@@ -106,7 +107,7 @@ void same_row(const std::string &what, Bytes file, const tikomuci::Got<Bytes> &v
 // The view of a section lies in the file, and is not there for an id that no section has.
 void sections(const std::string &what, Bytes file, Outcome outcome) {
     const bool walked = outcome || outcome.stage > Stage::Sections;
-    for (const std::uint64_t id : {0, 1, 2, 3, 4, 5, 6, 7, 8, 255}) {
+    for (const std::uint64_t id : std::initializer_list<std::uint64_t>{0, 1, 2, 3, 4, 5, 6, 7, 8, 255}) {
         const auto view = tikomuci::section(file, id);
         const Bytes seen = view.value_or(Bytes{});
         const bool inside = seen.data() >= file.data() && seen.data() + seen.size() <= file.data() + file.size();
