@@ -19,6 +19,7 @@ void table_tests();
 void write_tests();
 void builder_tests();
 void guard_tests();
+void format_tests();
 void memory_tests();
 void cxx17_tests();
 void released_tests();
@@ -338,6 +339,7 @@ int main() {
     write_tests();
     builder_tests();
     guard_tests();
+    format_tests();
     memory_tests();
     cxx17_tests();
     released_tests();
