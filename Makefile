@@ -74,6 +74,7 @@ library:
 cpp-tests: build/all_tests build/tikomuci
 	$(CXX) -std=c++11 $(WARNINGS) -fsyntax-only -x c++ include/tikomuci.h
 	for standard in c++17 c++20; do hosts/cpp/tests/must-not-compile $(CXX) -std=$$standard; done
+	hosts/cpp/tests/readme $(LIBRARY) $(RUN) -- $(CXX) -std=c++17 -O2 $(WARNINGS)
 	$(RUN) build/all_tests
 	command/tests $(RUN) build/tikomuci
 
