@@ -128,7 +128,7 @@ build/tikomuci: $(COMMAND) $(LIBRARY)
 build/examples/demo.o build/examples/example.o $(TESTS) $(COMMAND): include/tikomuci_tables.hpp
 build/examples/example.o: hosts/cpp/examples/sample.hpp
 $(TESTS): hosts/cpp/tests/check.hpp
-$(COMMAND): command/command.hpp
+$(COMMAND): $(wildcard command/*.hpp)
 
 build/%.o: hosts/cpp/%.cpp include/tikomuci.hpp include/tikomuci.h
 	@mkdir -p $(@D)
