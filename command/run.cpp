@@ -2,6 +2,7 @@
 
 #include <algorithm>
 #include <new>
+#include <utility>
 
 #include "container.hpp"
 #include "escape.hpp"
@@ -21,7 +22,7 @@ struct Session {
     Progress &progress;
     Sink &out;
     Sink &errors;
-    std::size_t files = 0;  // that were begun
+    bool shown = false;  // whether a file was, as text
 };
 
 using File = std::vector<std::uint8_t>;
@@ -38,7 +39,7 @@ Status refused(Session &session, const std::string &name, tikomuci::Outcome outc
 
 // What header and walk tell of a file. A blank line stands between two files.
 void show_container(Session &session, const std::string &name, const Container &container, tikomuci::Outcome outcome) {
-    session.out << (session.files > 1 ? "\n" : "");
+    session.out << (std::exchange(session.shown, true) ? "\n" : "");
     text::put_verdict(session.out, name, outcome);
     text::put_container(session.out, container, static_cast<bool>(outcome));
 }
@@ -127,7 +128,6 @@ Status failed(Session &session, const std::string &name, const Failure &failure)
 
 Status done(Session &session, const std::string &name) {
     const Busy busy(session.progress);
-    ++session.files;
     switch (session.call.verb) {
         case Verb::Show:
             return show(session, name);
