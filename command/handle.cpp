@@ -26,6 +26,11 @@ ssize_t uninterrupted(Call call) {
 
 bool Handle::close() { return !is_open() || ::close(std::exchange(number_, -1)) == 0; }
 
+void Handle::reset(int number) {
+    close();
+    number_ = number;
+}
+
 ssize_t read_some(int file, tikomuci::Output bytes) {
     return uninterrupted([&] { return read(file, bytes.data(), bytes.size()); });
 }

@@ -20,6 +20,9 @@ class Handle {
     [[nodiscard]] int number() const { return number_; }
     [[nodiscard]] bool is_open() const { return number_ >= 0; }
 
+    /// Takes another one.
+    void reset(int number);
+
     /// False if what was written may be lost; errno says why.
     bool close();
 

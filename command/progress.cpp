@@ -3,6 +3,7 @@
 #include <unistd.h>
 
 #include <array>
+#include <csignal>
 #include <cstdio>
 #include <system_error>
 
@@ -66,6 +67,10 @@ void Progress::rest() {
 }
 
 void Progress::watch(const std::stop_token &stop) {
+    // A signal is for the thread that knows what has to be removed before the end.
+    sigset_t all;
+    sigfillset(&all);
+    pthread_sigmask(SIG_BLOCK, &all, nullptr);
     std::unique_lock lock(mutex_);
     while (!stop.stop_requested()) {
         waiting_.wait_for(lock, stop, BETWEEN, [] { return false; });

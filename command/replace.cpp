@@ -32,11 +32,57 @@ extern "C" void remove_and_end(int signal) {
     raise(signal);
 }
 
-// As long as this is there, a signal that ends the program removes the file first. One that is ignored stays ignored.
-class RemovedAtEnd {
+// As long as this is there, signals that would end the program wait.
+class SignalsWait {
   public:
-    explicit RemovedAtEnd(const std::string &path) {
-        path.copy(unfinished.data(), unfinished.size() - 1);
+    SignalsWait() {
+        sigset_t ending;
+        sigemptyset(&ending);
+        for (const int signal : ENDING) {
+            sigaddset(&ending, signal);
+        }
+        pthread_sigmask(SIG_BLOCK, &ending, &before_);
+    }
+    ~SignalsWait() { pthread_sigmask(SIG_SETMASK, &before_, nullptr); }
+    SignalsWait(const SignalsWait &) = delete;
+    SignalsWait &operator=(const SignalsWait &) = delete;
+
+  private:
+    sigset_t before_{};
+};
+
+// A new file beside another one. As long as this is there, a signal that ends the program removes the file first; a
+// signal that is ignored stays ignored.
+class Beside {
+  public:
+    explicit Beside(const std::string &path) : file_(-1) {
+        const SignalsWait wait;
+        create(path.substr(0, path.rfind('/') + 1) + ".tikomuci-" + std::to_string(getpid()) + "-");
+        if (file_.is_open()) {
+            arm();
+        }
+    }
+    ~Beside() {
+        for (std::size_t i = 0; armed_ && i < ENDING.size(); ++i) {
+            sigaction(ENDING[i], &before_[i], nullptr);
+        }
+    }
+    Beside(const Beside &) = delete;
+    Beside &operator=(const Beside &) = delete;
+
+    [[nodiscard]] Handle &file() { return file_; }
+    [[nodiscard]] const char *name() const { return name_.c_str(); }
+
+  private:
+    void create(const std::string &prefix) {
+        for (int i = 0; i < TRIES && !file_.is_open() && (i == 0 || errno == EEXIST); ++i) {
+            name_ = prefix + std::to_string(i);
+            file_.reset(open(name_.c_str(), O_WRONLY | O_CREAT | O_EXCL | O_CLOEXEC, NEW_FILE));
+        }
+    }
+
+    void arm() {
+        unfinished[name_.copy(unfinished.data(), unfinished.size() - 1)] = '\0';
         struct sigaction remove {};
         remove.sa_handler = remove_and_end;
         remove.sa_flags = static_cast<int>(SA_RESETHAND);
@@ -46,34 +92,19 @@ class RemovedAtEnd {
                 sigaction(ENDING[i], &remove, nullptr);
             }
         }
+        armed_ = true;
     }
-    ~RemovedAtEnd() {
-        for (std::size_t i = 0; i < ENDING.size(); ++i) {
-            sigaction(ENDING[i], &before_[i], nullptr);
-        }
-    }
-    RemovedAtEnd(const RemovedAtEnd &) = delete;
-    RemovedAtEnd &operator=(const RemovedAtEnd &) = delete;
 
-  private:
+    std::string name_;
+    Handle file_;
     std::array<struct sigaction, ENDING.size()> before_{};
+    bool armed_ = false;
 };
 
 // What a link leads to; a path that leads nowhere stays as it is.
 std::string followed(const std::string &path) {
     const std::unique_ptr<char, void (*)(void *)> real(realpath(path.c_str(), nullptr), std::free);
     return real ? real.get() : path;
-}
-
-// A new file in the folder of another one: its name and its descriptor, which is -1 if there is none.
-int create_beside(const std::string &path, std::string &name) {
-    const std::string folder = path.substr(0, path.rfind('/') + 1);
-    int file = -1;
-    for (int i = 0; i < TRIES && (i == 0 || (file < 0 && errno == EEXIST)); ++i) {
-        name = folder + ".tikomuci-" + std::to_string(getpid()) + "-" + std::to_string(i);
-        file = open(name.c_str(), O_WRONLY | O_CREAT | O_EXCL | O_CLOEXEC, NEW_FILE);
-    }
-    return file;
 }
 
 // Who may not give a file away keeps it; the mode can be kept by whoever made the file.
@@ -91,18 +122,17 @@ bool replace_file(const std::string &path, tikomuci::Bytes bytes, Progress &prog
     if (there && access(target.c_str(), W_OK) != 0) {
         return false;
     }
-    std::string name;
-    Handle file(create_beside(target, name));
+    Beside beside(target);
+    Handle &file = beside.file();
     if (!file.is_open()) {
         return false;
     }
-    const RemovedAtEnd removed_at_end(name);
     if ((!there || take_after(file.number(), old)) && write_all(file.number(), bytes, &progress) &&
-        fsync(file.number()) == 0 && file.close() && std::rename(name.c_str(), target.c_str()) == 0) {
+        fsync(file.number()) == 0 && file.close() && std::rename(beside.name(), target.c_str()) == 0) {
         return true;
     }
     const int why = errno;
-    unlink(name.c_str());
+    unlink(beside.name());
     errno = why;
     return false;
 }

@@ -65,6 +65,19 @@ class Case(unittest.TestCase):
     def holds(self, name, data):
         self.assertEqual((self.folder / name).read_bytes(), data)
 
+    def state(self, name):
+        """What changes if a file is written or replaced."""
+        about = (self.folder / name).stat()
+        return about.st_ino, about.st_mode, about.st_size, about.st_mtime_ns
+
+    def as_nobody(self):
+        """Options of a call by a user who may not do everything."""
+        os.chmod(self.folder, 0o777)
+        shutil.copy(COMMAND[-1], self.folder / "command")
+        command = [*COMMAND[:-1], self.folder / "command"]
+        nobody = {"user": 65534, "group": 65534, "extra_groups": []}
+        return {"command": command, **(nobody if os.geteuid() == 0 else {})}
+
     def call(self, *words, command=None, **options):
         """The status of a call, and what it writes to standard output and to standard error, as bytes."""
         options = {"cwd": self.folder, "timeout": TIMEOUT, "stdout": subprocess.PIPE, **options}
