@@ -25,8 +25,8 @@ bool same_letters(std::string_view a, std::string_view b) {
 
 // The library judges the header; this reads again what it has.
 std::optional<tikomuci::Version> version_of(Bytes file) {
-    const auto viewed = tikomuci::section(file, TIKOMUCI_SECTION_STRING);
-    if (!viewed && viewed.outcome().stage < TIKOMUCI_STAGE_SECTIONS) {
+    const auto viewed = tikomuci::section(file, tikomuci::Section::String);
+    if (!viewed && viewed.outcome().stage < tikomuci::Stage::Sections) {
         return std::nullopt;
     }
     tikomuci::Reader reader(file, VERSION_AT);
@@ -67,7 +67,7 @@ std::optional<Section> Walk::next() {
 
 bool Walk::good(tikomuci::Outcome outcome) {
     if (!outcome) {
-        outcome_ = {outcome.refusal, TIKOMUCI_STAGE_SECTIONS};
+        outcome_ = {outcome.refusal, tikomuci::Stage::Sections};
     }
     return static_cast<bool>(outcome);
 }
@@ -116,13 +116,13 @@ std::optional<std::uint64_t> Container::counting(std::uint64_t id) const {
 }
 
 std::uint64_t constants_at(Bytes file, const tikomuci::Sheet &sheet) {
-    const auto section = tikomuci::section(file, TIKOMUCI_SECTION_CONSTANT);
+    const auto section = tikomuci::section(file, tikomuci::Section::Constant);
     if (!section) {
         return 0;
     }
     auto at = static_cast<std::uint64_t>(section->data() - file.data()) + section->size();
-    for (std::uint64_t i = 0; i < sheet.constants(); ++i) {
-        at -= sheet.constant(i).value_or(Bytes{}).size();
+    for (const Bytes constant : sheet.constants()) {
+        at -= constant.size();
     }
     return at;
 }

@@ -10,9 +10,6 @@
 
 namespace command {
 
-/// The library refuses a file of more bytes than this, and none is read further than a byte behind it.
-inline constexpr std::uint64_t LIMIT = std::uint64_t{1} << 30U;
-
 /// A section as its own header has it.
 struct Section {
     std::uint64_t id = 0;
@@ -63,7 +60,7 @@ class Container {
 
     /// Nothing if it is over the limit: nobody knows how much was not read.
     [[nodiscard]] std::optional<std::uint64_t> size() const {
-        return file_.size() <= LIMIT ? std::optional<std::uint64_t>(file_.size()) : std::nullopt;
+        return file_.size() <= TIKOMUCI_MAX_FILE_BYTES ? std::optional<std::uint64_t>(file_.size()) : std::nullopt;
     }
 
     /// Those of a header, whatever they are.

@@ -8,7 +8,6 @@
 #include <cerrno>
 #include <cstring>
 
-#include "container.hpp"
 #include "handle.hpp"
 #include "status.hpp"
 
@@ -16,7 +15,7 @@ namespace command {
 
 namespace {
 
-constexpr std::size_t MOST = LIMIT + 1;
+constexpr std::size_t MOST = TIKOMUCI_MAX_FILE_BYTES + 1;
 constexpr std::size_t CHUNK = std::size_t{1} << 20U;
 
 int open_file(const std::string &path) {

@@ -1,5 +1,7 @@
 #include "object.hpp"
 
+#include <utility>
+
 #include "json.hpp"
 #include "sha256.hpp"
 
@@ -23,11 +25,14 @@ Json accepted(Sink &out, std::string_view name) {
     return json;
 }
 
+void put_refusal(Json &json, tikomuci::Refusal refusal) {
+    json.key("refusal").number(number_of(refusal)).key("refusal_name").text(tikomuci::refusal_name(refusal));
+}
+
 Json refused(Sink &out, std::string_view name, tikomuci::Outcome outcome) {
     Json json = begun(out, name, Status::Refused);
-    json.key("accepted").truth(false).key("refusal").number(outcome.refusal);
-    json.key("refusal_name").text(tikomuci::refusal_name(outcome.refusal));
-    json.key("stage").number(outcome.stage).key("stage_name").text(tikomuci::stage_name(outcome.stage));
+    put_refusal(json.key("accepted").truth(false), outcome.refusal);
+    json.key("stage").number(number_of(outcome.stage)).key("stage_name").text(tikomuci::stage_name(outcome.stage));
     return json;
 }
 
@@ -70,69 +75,60 @@ struct Fields {
     Json &flags(std::uint64_t value) const { return json.key("flags").number(value); }
 };
 
-void put_type(Json &json, const Sheet &sheet, std::uint64_t i) {
-    if (const auto row = sheet.type(i)) {
-        json.open('{').key("kind").text(tikomuci::type_name(static_cast<std::uint64_t>(row->tag)));
-        std::visit(Fields{json}, row->kind);
-        json.close('}');
-    }
-}
-
 void put_sum(Json &json, Bytes bytes) { json.key("length").number(bytes.size()).key("sha256").hex(sha256(bytes)); }
 
-void put_global(Json &json, const Sheet &sheet, std::uint64_t i) {
-    if (const auto row = sheet.global(i)) {
-        json.open('{').key("name").number(row->name).key("type").number(row->type);
-        json.key("constant").number(row->constant).key("alignment").number(row->alignment);
-        json.key("visibility").number(row->visibility).key("is_constant").truth(row->is_constant).close('}');
-    }
+void put_row(Json &json, const tikomuci::Type &row) {
+    json.open('{').key("kind").text(tikomuci::type_name(row.tag));
+    std::visit(Fields{json}, row.kind);
+    json.close('}');
 }
 
-void put_function(Json &json, const Sheet &sheet, std::uint64_t i) {
-    if (const auto row = sheet.function(i)) {
-        json.open('{').key("name").number(row->name).key("signature").number(row->signature);
-        json.key("flags").number(row->flags).key("location").number(row->location).key("body").open('{');
-        put_sum(json, row->body);
-        json.close('}').close('}');
-    }
+void put_row(Json &json, const tikomuci::Global &row) {
+    json.open('{').key("name").number(row.name).key("type").number(row.type);
+    json.key("constant").number(row.constant).key("alignment").number(row.alignment);
+    json.key("visibility").number(row.visibility).key("is_constant").truth(row.is_constant).close('}');
 }
 
-void put_attribute(Json &json, const Sheet &sheet, std::uint64_t i) {
-    if (const auto row = sheet.attribute(i)) {
-        json.open('{').key("kind").text(tikomuci::DEBUG_NAMES[static_cast<std::size_t>(row->tag)]);
-        json.key("fields").numbers(row->fields).close('}');
-    }
+void put_row(Json &json, const tikomuci::Function &row) {
+    json.open('{').key("name").number(row.name).key("signature").number(row.signature);
+    json.key("flags").number(row.flags).key("location").number(row.location).key("body").open('{');
+    put_sum(json, row.body);
+    json.close('}').close('}');
 }
 
-template <typename Put>
-void put_table(Json &json, std::string_view name, std::uint64_t rows, Put put) {
+void put_row(Json &json, const tikomuci::Attribute &row) {
+    json.open('{').key("kind").text(tikomuci::debug_name(row.tag)).key("fields").numbers(row.fields).close('}');
+}
+
+void put_row(Json &json, const tikomuci::Words &ids) { json.numbers(ids); }
+
+void put_constant(Json &json, Bytes constant, std::uint64_t at) {
+    json.open('{').key("offset").number(at);
+    put_sum(json, constant);
+    json.close('}');
+}
+
+template <typename Table, typename Put>
+void put_table(Json &json, std::string_view name, const Table &table, Put put) {
     json.key(name).open('[');
-    for (std::uint64_t i = 0; i < rows; ++i) {
-        put(i);
+    for (const auto &row : table) {
+        put(row);
     }
     json.close(']');
 }
 
-void put_constants(Json &json, const Sheet &sheet, std::uint64_t at) {
-    put_table(json, "constants", sheet.constants(), [&](std::uint64_t i) {
-        const Bytes constant = sheet.constant(i).value_or(Bytes{});
-        json.open('{').key("offset").number(at);
-        put_sum(json, constant);
-        json.close('}');
-        at += constant.size();
-    });
-}
-
 void put_tables(Json &json, const Sheet &sheet, std::uint64_t constants_at) {
+    const auto put = [&](const auto &row) { put_row(json, row); };
     json.key("producer").number(sheet.producer());
-    put_table(json, "strings", sheet.strings(), [&](std::uint64_t i) { json.text(sheet.string(i).value_or(Bytes{})); });
-    put_table(json, "types", sheet.types(), [&](std::uint64_t i) { put_type(json, sheet, i); });
-    put_constants(json, sheet, constants_at);
-    put_table(json, "globals", sheet.globals(), [&](std::uint64_t i) { put_global(json, sheet, i); });
-    put_table(json, "functions", sheet.functions(), [&](std::uint64_t i) { put_function(json, sheet, i); });
-    put_table(json, "attributes", sheet.attributes(), [&](std::uint64_t i) { put_attribute(json, sheet, i); });
-    put_table(json, "lists", sheet.lists(),
-              [&](std::uint64_t i) { json.numbers(sheet.list(i).value_or(tikomuci::Words{})); });
+    put_table(json, "strings", sheet.strings(), [&](Bytes string) { json.text(string); });
+    put_table(json, "types", sheet.types(), put);
+    put_table(json, "constants", sheet.constants(), [&](Bytes constant) {
+        put_constant(json, constant, std::exchange(constants_at, constants_at + constant.size()));
+    });
+    put_table(json, "globals", sheet.globals(), put);
+    put_table(json, "functions", sheet.functions(), put);
+    put_table(json, "attributes", sheet.attributes(), put);
+    put_table(json, "lists", sheet.lists(), put);
 }
 
 void put_version(Json &json, const std::optional<tikomuci::Version> &version) {
@@ -155,8 +151,7 @@ void put_name(Json &json, std::uint64_t id) {
 void put_broken(Json &json, const Walk &walk) {
     const Section &begun = walk.begun();
     json.key("broken").open('{').key("offset").number(walk.at());
-    json.key("refusal").number(walk.outcome().refusal);
-    json.key("refusal_name").text(tikomuci::refusal_name(walk.outcome().refusal));
+    put_refusal(json, walk.outcome().refusal);
     json.key("id").number(begun.id != 0 ? std::optional(begun.id) : std::nullopt);
     json.key("length").number(begun.offset != 0 ? std::optional(begun.length) : std::nullopt).close('}');
 }

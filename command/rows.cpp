@@ -2,6 +2,7 @@
 
 #include <array>
 #include <limits>
+#include <utility>
 
 #include "escape.hpp"
 #include "sha256.hpp"
@@ -50,7 +51,7 @@ class Rows {
             return put("<no type ", i, '>');
         }
         if (std::holds_alternative<tikomuci::Scalar>(row->kind)) {
-            return put(tikomuci::type_name(static_cast<std::uint64_t>(row->tag)));
+            return put(tikomuci::type_name(row->tag));
         }
         return put('#', i);
     }
@@ -75,7 +76,7 @@ class Rows {
         return dims(shape, "x").put(shape.empty() ? "" : "x").type(element);
     }
 
-    Rows &types(Words list) {
+    Rows &types(const Words &list) {
         return joined(list, ", ", [this](std::uint64_t i) { type(i); });
     }
 
@@ -103,7 +104,7 @@ struct Described {
     Rows &rows;
     tikomuci::TypeTag tag;
 
-    void operator()(const tikomuci::Scalar &) const { rows.put(tikomuci::type_name(static_cast<std::uint64_t>(tag))); }
+    void operator()(const tikomuci::Scalar &) const { rows.put(tikomuci::type_name(tag)); }
 
     void operator()(const tikomuci::Pointer &t) const {
         rows.put("ptr<").type(t.element).optional("ptr_attr", t.attribute).put('>');
@@ -137,25 +138,20 @@ struct Described {
     }
 };
 
-void put_type(Rows &rows, std::uint64_t i) {
-    if (const auto row = rows.sheet().type(i)) {
-        std::visit(Described{rows, row->tag}, row->kind);
-    }
-}
+void put_row(Rows &rows, const tikomuci::Type &type) { std::visit(Described{rows, type.tag}, type.kind); }
 
 // The inputs and results of a function, if they are not too many; else the number of its type.
 void put_signature(Rows &rows, std::uint64_t i) {
     const auto type = rows.sheet().type(i);
     const auto *const function = type ? std::get_if<tikomuci::FuncType>(&type->kind) : nullptr;
     if (function != nullptr && function->inputs.size() + function->results.size() <= LONGEST) {
-        put_type(rows, i);
+        put_row(rows, *type);
     } else {
         rows.type(i);
     }
 }
 
-void put_global(Rows &rows, std::uint64_t i) {
-    const tikomuci::Global g = rows.sheet().global(i).value_or(tikomuci::Global{});
+void put_row(Rows &rows, const tikomuci::Global &g) {
     rows.string(g.name).put(" : ").type(g.type).put(" = constant ", g.constant, ", align ", g.alignment);
     if (rows.sheet().version() < tikomuci::Version{13, 3, 0}) {
         return;
@@ -168,8 +164,7 @@ void put_global(Rows &rows, std::uint64_t i) {
     rows.put(g.is_constant ? ", constant" : "");
 }
 
-void put_function(Rows &rows, std::uint64_t i) {
-    const tikomuci::Function f = rows.sheet().function(i).value_or(tikomuci::Function{});
+void put_row(Rows &rows, const tikomuci::Function &f) {
     rows.put(f.is_kernel() ? "entry " : "func ").string(f.name).put(" : ");
     put_signature(rows, f.signature);
     rows.put(f.is_private() ? ", private" : ", public", ", location ", f.location, ", body of ").run(f.body);
@@ -208,33 +203,30 @@ void put_field(Rows &rows, Field field, std::uint64_t value) {
     }
 }
 
-void put_attribute(Rows &rows, std::uint64_t i) {
-    const tikomuci::Attribute a = rows.sheet().attribute(i).value_or(tikomuci::Attribute{});
-    const auto tag = static_cast<std::size_t>(a.tag);
-    rows.put(tikomuci::DEBUG_NAMES[tag]);
+void put_row(Rows &rows, const tikomuci::Attribute &a) {
+    rows.put(tikomuci::debug_name(a.tag));
     for (std::size_t n = 0; n < a.fields.size(); ++n) {
-        const Label label = LABELS[tag][n];
+        const Label label = LABELS[number_of(a.tag)][n];
         rows.put(n == 0 ? "(" : ", ", label.name, '=');
         put_field(rows, label.field, a.fields[n]);
     }
     rows.put(a.fields.empty() ? "" : ")");
 }
 
-void put_list(Rows &rows, std::uint64_t i) {
-    const auto item = [&](std::uint64_t id) { rows.put(id); };
-    rows.put('[').joined(rows.sheet().list(i).value_or(Words{}), ", ", item).put(']');
+void put_row(Rows &rows, const Words &ids) {
+    rows.put('[').joined(ids, ", ", [&](std::uint64_t id) { rows.put(id); }).put(']');
 }
 
 // A table that has rows: its name, and a line for each row.
-template <typename Put>
-void put_table(Rows &rows, std::string_view name, std::uint64_t count, Put put, std::uint64_t first = 0) {
-    if (count == 0) {
+template <typename Table, typename Put>
+void put_table(Rows &rows, std::string_view name, const Table &table, Put put, std::uint64_t number = 0) {
+    if (table.empty()) {
         return;
     }
-    rows.put('\n', name, " (", count, ")\n");
-    for (std::uint64_t i = 0; i < count; ++i) {
-        rows.put("  [", i + first, "] ");
-        put(rows, i);
+    rows.put('\n', name, " (", table.size(), ")\n");
+    for (const auto &row : table) {
+        rows.put("  [", number++, "] ");
+        put(row);
         rows.put('\n');
     }
 }
@@ -243,21 +235,19 @@ void put_table(Rows &rows, std::string_view name, std::uint64_t count, Put put, 
 
 void put_rows(Sink &out, const Sheet &sheet, std::uint64_t constants_at) {
     Rows rows(out, sheet);
+    const auto put = [&](const auto &row) { put_row(rows, row); };
     if (const auto producer = sheet.producer()) {
         rows.put("\nproduced by ").string(*producer).put('\n');
     }
-    put_table(rows, "strings", sheet.strings(),
-              [&](Rows &, std::uint64_t i) { rows.put(Quoted{sheet.string(i).value_or(Bytes{})}); });
-    put_table(rows, "types", sheet.types(), put_type);
-    put_table(rows, "constants", sheet.constants(), [&, at = constants_at](Rows &, std::uint64_t i) mutable {
-        const Bytes constant = sheet.constant(i).value_or(Bytes{});
-        rows.run(constant, std::exchange(at, at + constant.size()));
-    });
-    put_table(rows, "globals", sheet.globals(), put_global);
-    put_table(rows, "functions", sheet.functions(), put_function);
+    put_table(rows, "strings", sheet.strings(), [&](Bytes string) { rows.put(Quoted{string}); });
+    put_table(rows, "types", sheet.types(), put);
+    put_table(rows, "constants", sheet.constants(),
+              [&](Bytes constant) { rows.run(constant, std::exchange(constants_at, constants_at + constant.size())); });
+    put_table(rows, "globals", sheet.globals(), put);
+    put_table(rows, "functions", sheet.functions(), put);
     // Attributes are counted from 1, as their ids are.
-    put_table(rows, "debug attributes", sheet.attributes(), put_attribute, 1);
-    put_table(rows, "debug lists", sheet.lists(), put_list);
+    put_table(rows, "debug attributes", sheet.attributes(), put, 1);
+    put_table(rows, "debug lists", sheet.lists(), put);
 }
 
 }  // namespace command::text

@@ -57,12 +57,15 @@ Status show(Session &session, const std::string &name) {
     const File file = read_file(name, session.progress);
     session.progress.now("judging");
     const auto tables = tikomuci::read(file);
+    if (tables.outcome().refusal == tikomuci::Refusal::Memory) {
+        throw std::bad_alloc();
+    }
     const Container container(file);
     session.progress.now_writing();
     if (!tables) {
         return show_refused(session, name, container, tables.outcome());
     }
-    const tikomuci::Sheet &sheet = tables->sheet;
+    const tikomuci::Sheet &sheet = tables->sheet();
     if (session.call.json) {
         object::put_shown(session.out, name, container, sheet, constants_at(file, sheet));
     } else {

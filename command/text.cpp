@@ -58,7 +58,7 @@ void put_size(Sink &out, const Container &container) {
     if (const auto size = container.size()) {
         out << Length{*size};
     } else {
-        out << "more than " << Length{LIMIT};
+        out << "more than " << Length{TIKOMUCI_MAX_FILE_BYTES};
     }
     if (!container.version()) {
         out << ", beginning with " << Quoted{container.first_bytes()};
@@ -89,10 +89,10 @@ void put_verdict(Sink &out, std::string_view name, tikomuci::Outcome outcome) {
         return;
     }
     out << ": refused: " << tikomuci::refusal_text(outcome.refusal);
-    if (outcome.stage != TIKOMUCI_STAGE_CALL) {
+    if (outcome.stage != tikomuci::Stage::Call) {
         out << ", " << tikomuci::stage_text(outcome.stage);
     }
-    out << " (refusal " << outcome.refusal << ", stage " << outcome.stage << ")\n";
+    out << " (refusal " << number_of(outcome.refusal) << ", stage " << number_of(outcome.stage) << ")\n";
 }
 
 void put_container(Sink &out, const Container &container, bool accepted) {

@@ -15,6 +15,7 @@ namespace {
 using tikomuci::Bytes;
 using tikomuci::Outcome;
 using tikomuci::Reader;
+using tikomuci::Section;
 using tikomuci::Writer;
 
 std::string hex(Bytes bytes) {
@@ -34,7 +35,8 @@ std::string said(Outcome outcome) {
     if (outcome) {
         return "accepted";
     }
-    return "refusal " + std::to_string(outcome.refusal) + ", stage " + std::to_string(outcome.stage);
+    return "refusal " + std::to_string(number_of(outcome.refusal)) + ", stage " +
+           std::to_string(number_of(outcome.stage));
 }
 
 void heading(const char *text) { std::printf("\n%s\n", text); }
@@ -108,13 +110,13 @@ std::vector<std::uint8_t> whole_case() {
 void view_a_section() {
     heading("A section of a file, and the same file with a length that reaches too far");
     std::vector<std::uint8_t> file = whole_case();
-    const auto strings = tikomuci::section(file, TIKOMUCI_SECTION_STRING);
+    const auto strings = tikomuci::section(file, Section::String);
     must(strings.outcome());
     std::printf("  String   %s\n", hex(*strings).c_str());
-    const auto constants = tikomuci::section(file, TIKOMUCI_SECTION_CONSTANT);
+    const auto constants = tikomuci::section(file, Section::Constant);
     std::printf("  Constant %s\n", said(constants.outcome()).c_str());
     file[13] = 0x7F;
-    std::printf("  damaged  %s\n", said(tikomuci::section(file, TIKOMUCI_SECTION_STRING).outcome()).c_str());
+    std::printf("  damaged  %s\n", said(tikomuci::section(file, Section::String).outcome()).c_str());
 }
 
 void read_tables() {
@@ -122,13 +124,13 @@ void read_tables() {
     std::vector<std::uint8_t> file = whole_case();
     const auto tables = tikomuci::read(file);
     must(tables.outcome());
-    const tikomuci::Sheet &sheet = tables->sheet;
-    std::printf("  %zu words, %zu bytes of pool, %zu strings\n", tables->words.size(), tables->pool.size(),
-                sheet.strings());
-    for (std::uint64_t i = 0; i <= sheet.strings(); ++i) {
-        const auto row = sheet.string(i);
-        std::printf("  string %llu  %s\n", static_cast<unsigned long long>(i), row ? hex(*row).c_str() : "not there");
+    const tikomuci::Sheet &sheet = tables->sheet();
+    std::printf("  %zu words, %zu bytes of pool, %zu strings\n", sheet.bytes().size() / 8, sheet.pool().size(),
+                sheet.strings().size());
+    for (const Bytes row : sheet.strings()) {
+        std::printf("  string    %s\n", hex(row).c_str());
     }
+    std::printf("  string 2  %s\n", sheet.string(2) ? "there" : "not there");
     file[20] = 2;
     const Outcome refused = tikomuci::read(file).outcome();
     std::printf("  %s: %s, %s\n", said(refused).c_str(), tikomuci::refusal_text(refused.refusal).data(),

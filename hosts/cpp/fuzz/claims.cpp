@@ -47,9 +47,11 @@ Stores read_whole(Bytes file, Size size) {
 void read_refused(Bytes file, std::size_t sheet_size, std::size_t pool_size, Outcome wanted) {
     Store sheet(sheet_size);
     Store pool(pool_size);
-    const auto got = tikomuci::read(file, sheet.lent(), pool.lent());
-    claim(got.outcome() == wanted, "a reading is refused with the number and the stage that it should have");
-    claim(!got, "a refused reading has no other data");
+    const tikomuci_answer got = tikomuci_read(file.data(), file.size(), sheet.lent().data(), sheet.lent().size(),
+                                              pool.lent().data(), pool.lent().size());
+    claim(tikomuci::outcome_of(got) == wanted,
+          "a reading is refused with the number and the stage that it should have");
+    claim(got.first == 0 && got.second == 0, "a refused reading has no other data");
     claim(sheet.kept_but(0) && pool.kept_but(0), "a refused reading changes no byte");
 }
 
@@ -65,9 +67,11 @@ Wire write_whole(Bytes sheet, Bytes pool, std::uint64_t size) {
 
 void write_refused(Bytes sheet, Bytes pool, std::size_t size, Outcome wanted) {
     Store out(size);
-    const auto got = tikomuci::write(sheet, pool, out.lent());
-    claim(got.outcome() == wanted, "a writing is refused with the number and the stage that it should have");
-    claim(!got, "a refused writing has no other data");
+    const tikomuci_answer got =
+        tikomuci_write(sheet.data(), sheet.size(), pool.data(), pool.size(), out.lent().data(), out.lent().size());
+    claim(tikomuci::outcome_of(got) == wanted,
+          "a writing is refused with the number and the stage that it should have");
+    claim(got.first == 0 && got.second == 0, "a refused writing has no other data");
     claim(out.kept_but(0), "a refused writing changes no byte");
 }
 

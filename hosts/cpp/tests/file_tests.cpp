@@ -2,7 +2,6 @@
 
 #include <algorithm>
 #include <array>
-#include <limits>
 #include <stdexcept>
 #include <string>
 #include <vector>
@@ -15,10 +14,10 @@ using tikomuci::Bytes;
 using tikomuci::Outcome;
 using tikomuci::outcome_of;
 using tikomuci::Output;
+using tikomuci::Refusal;
 using tikomuci::Size;
+using tikomuci::Stage;
 using Sheet = std::vector<std::uint64_t>;
-
-constexpr std::uint64_t FAR = std::numeric_limits<std::uint64_t>::max();
 
 // A file, and what has to be read from it.
 struct Case {
@@ -84,7 +83,7 @@ void stores() {
     }
 }
 
-using View = tikomuci::Got<Bytes> (*)(Bytes, std::uint64_t);
+using View = tikomuci::Got<Bytes> (*)(tikomuci::Lent, std::uint64_t) noexcept;
 
 // The rows of one table by their places in the file, and numbers that no row has.
 void views(const std::string &what, View view, const Wire &file,
@@ -141,39 +140,39 @@ void damaged(const std::string &what, std::size_t place, std::uint8_t byte, Outc
 }
 
 void refusals() {
-    damaged("a wrong magic", 0, 0x7E, {TIKOMUCI_REFUSAL_MAGIC, TIKOMUCI_STAGE_HEADER});
-    damaged("wrong padding before a section", 15, 0, {TIKOMUCI_REFUSAL_PADDING, TIKOMUCI_STAGE_SECTIONS});
-    damaged("a section past the file", 105, 36, {TIKOMUCI_REFUSAL_SHORT, TIKOMUCI_STAGE_SECTIONS});
-    damaged("a string that starts after its end", 20, 2, {TIKOMUCI_REFUSAL_BOUNDS, TIKOMUCI_STAGE_STRING});
-    damaged("a string that ends outside", 24, 6, {TIKOMUCI_REFUSAL_BOUNDS, TIKOMUCI_STAGE_STRING});
-    damaged("a producer that is no string", 35, 2, {TIKOMUCI_REFUSAL_PRODUCER, TIKOMUCI_STAGE_PRODUCER});
-    damaged("a type tag that is not known", 50, 23, {TIKOMUCI_REFUSAL_TYPE_TAG, TIKOMUCI_STAGE_TYPE});
-    damaged("a type that ends inside a field", 52, 3, {TIKOMUCI_REFUSAL_SHORT, TIKOMUCI_STAGE_TYPE});
-    damaged("wrong padding among constants", 65, 0xCA, {TIKOMUCI_REFUSAL_PADDING, TIKOMUCI_STAGE_CONSTANT});
-    damaged("a constant far outside", 79, 0x80, {TIKOMUCI_REFUSAL_BOUNDS, TIKOMUCI_STAGE_CONSTANT});
-    damaged("a global too many", 85, 2, {TIKOMUCI_REFUSAL_SHORT, TIKOMUCI_STAGE_GLOBAL});
-    damaged("a function with hints", 97, 4, {TIKOMUCI_REFUSAL_HINTS, TIKOMUCI_STAGE_FUNC});
-    damaged("a body past its section", 99, 5, {TIKOMUCI_REFUSAL_SHORT, TIKOMUCI_STAGE_FUNC});
-    damaged("a debug tag that is not known", 138, 7, {TIKOMUCI_REFUSAL_DEBUG_TAG, TIKOMUCI_STAGE_DEBUG});
-    damaged("an empty debug attribute", 134, 3, {TIKOMUCI_REFUSAL_BOUNDS, TIKOMUCI_STAGE_DEBUG});
-    damaged("a list that starts behind the ids", 110, 2, {TIKOMUCI_REFUSAL_BOUNDS, TIKOMUCI_STAGE_DEBUG});
+    damaged("a wrong magic", 0, 0x7E, {Refusal::Magic, Stage::Header});
+    damaged("wrong padding before a section", 15, 0, {Refusal::Padding, Stage::Sections});
+    damaged("a section past the file", 105, 36, {Refusal::Short, Stage::Sections});
+    damaged("a string that starts after its end", 20, 2, {Refusal::Bounds, Stage::String});
+    damaged("a string that ends outside", 24, 6, {Refusal::Bounds, Stage::String});
+    damaged("a producer that is no string", 35, 2, {Refusal::Producer, Stage::Producer});
+    damaged("a type tag that is not known", 50, 23, {Refusal::TypeTag, Stage::Type});
+    damaged("a type that ends inside a field", 52, 3, {Refusal::Short, Stage::Type});
+    damaged("wrong padding among constants", 65, 0xCA, {Refusal::Padding, Stage::Constant});
+    damaged("a constant far outside", 79, 0x80, {Refusal::Bounds, Stage::Constant});
+    damaged("a global too many", 85, 2, {Refusal::Short, Stage::Global});
+    damaged("a function with hints", 97, 4, {Refusal::Hints, Stage::Func});
+    damaged("a body past its section", 99, 5, {Refusal::Short, Stage::Func});
+    damaged("a debug tag that is not known", 138, 7, {Refusal::DebugTag, Stage::Debug});
+    damaged("an empty debug attribute", 134, 3, {Refusal::Bounds, Stage::Debug});
+    damaged("a list that starts behind the ids", 110, 2, {Refusal::Bounds, Stage::Debug});
 
     Wire overlong = {0x7F, 'T', 'i', 'l', 'e', 'I', 'R', 0x00, 13, 4, 0, 0, 7, 10};
     const Wire number = nine(0xFF, 0x81);
     overlong.insert(overlong.end(), number.begin(), number.end());
     overlong.push_back(0);
-    expect(judged("a producer past ten bytes", overlong) == Outcome{TIKOMUCI_REFUSAL_OVERLONG, TIKOMUCI_STAGE_PRODUCER},
+    expect(judged("a producer past ten bytes", overlong) == Outcome{Refusal::Overlong, Stage::Producer},
            "a producer past ten bytes");
 
     Wire first = every_table();
     first[20] = 2;
     first[138] = 7;
-    expect(judged("two faults", first) == Outcome{TIKOMUCI_REFUSAL_BOUNDS, TIKOMUCI_STAGE_STRING},
+    expect(judged("two faults", first) == Outcome{Refusal::Bounds, Stage::String},
            "the first fault in reading order counts");
 
     // Globals stand before constants in this file and are read after them.
     const Wire order = {0x7F, 'T', 'i', 'l', 'e', 'I', 'R', 0x00, 13, 4, 0, 0, 6, 1, 1, 4, 0, 0};
-    expect(judged("no global and no constant", order) == Outcome{TIKOMUCI_REFUSAL_SHORT, TIKOMUCI_STAGE_CONSTANT},
+    expect(judged("no global and no constant", order) == Outcome{Refusal::Short, Stage::Constant},
            "the reading order is not that of the file");
 }
 
@@ -181,9 +180,9 @@ void cut_files() {
     const Wire file = every_table();
     for (std::size_t size = 0; size < file.size(); ++size) {
         const Wire cut(file.begin(), file.begin() + static_cast<std::ptrdiff_t>(size));
-        const std::uint64_t stage = size < 12 ? TIKOMUCI_STAGE_HEADER : TIKOMUCI_STAGE_SECTIONS;
+        const Stage stage = size < 12 ? Stage::Header : Stage::Sections;
         const std::string what = "every table, cut to " + std::to_string(size) + " bytes";
-        expect(judged(what, cut) == Outcome{TIKOMUCI_REFUSAL_SHORT, stage}, what);
+        expect(judged(what, cut) == Outcome{Refusal::Short, stage}, what);
     }
     Wire longer = file;
     longer.insert(longer.end(), {0xFF, 0xFF, 0xFF});
@@ -193,7 +192,7 @@ void cut_files() {
 
 // An empty span may come as a null pointer.
 void null_spans() {
-    const Outcome no_header{TIKOMUCI_REFUSAL_SHORT, TIKOMUCI_STAGE_HEADER};
+    const Outcome no_header{Refusal::Short, Stage::Header};
     expect(outcome_of(tikomuci_measure(nullptr, 0)) == no_header, "no file measured");
     expect(outcome_of(tikomuci_read(nullptr, 0, nullptr, 0, nullptr, 0)) == no_header, "no file read");
     expect(outcome_of(tikomuci_string(nullptr, 0, 0)) == no_header, "a string of no file");

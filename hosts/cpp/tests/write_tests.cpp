@@ -1,7 +1,6 @@
 // Tests of writing: the image of a sheet and a pool, what is refused, and reading back what was written.
 
 #include <algorithm>
-#include <limits>
 #include <stdexcept>
 #include <string>
 #include <vector>
@@ -17,9 +16,8 @@ using tikomuci::Output;
 using tikomuci::Size;
 using Sheet = std::vector<std::uint64_t>;
 
-constexpr std::uint64_t FAR = std::numeric_limits<std::uint64_t>::max();
-constexpr Outcome LIMIT{TIKOMUCI_REFUSAL_LIMIT, TIKOMUCI_STAGE_CALL};
-constexpr Outcome START{TIKOMUCI_REFUSAL_START, TIKOMUCI_STAGE_CALL};
+constexpr Outcome LIMIT{tikomuci::Refusal::Limit, tikomuci::Stage::Call};
+constexpr Outcome START{tikomuci::Refusal::Start, tikomuci::Stage::Call};
 
 // A sheet and a pool, and the bytes that they have to give.
 struct Case {
