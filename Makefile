@@ -1,19 +1,30 @@
 # make demo: prove, build the library, and see it used from C++.
 # make test: what the gate runs: everything is proved from nothing, and the tests of the hosts.
 # make command: build/tikomuci, which shows and checks files.
+# make library: build/libtikomuci.a, for this machine's processor.
 # make install: the library, its headers and the command, below PREFIX; make uninstall removes them.
 # make bench: our calls beside encoding.rs, decoder.rs and a plain reader and writer in Rust.
+# make comparison: our calls compared with the Rust on made files (SEED=n for other ones).
 # make fuzz: tries the calls on arbitrary bytes for a minute (FUZZ_SECONDS=n).
+# make sanitizers: the tests and the corpus under AddressSanitizer and UndefinedBehaviorSanitizer.
+# make lint: the layout of every source file, clippy and shellcheck.
+# make setup: installs the tools that are missing; the commands above do it by themselves.
 # make corpus: writes the files that the fuzzer starts from.
 # make answers: writes the list of decoder.rs's answers that the reader tests replay.
+# make clean: removes all that was made.
 
 SHELL := bash
 .SHELLFLAGS := -euo pipefail -c
 .DELETE_ON_ERROR:
-.PHONY: help demo test cpp-side rust-side command bench answers verdict library cpp-tests reader-tests comparison lint
-.PHONY: clean
+.PHONY: help demo test command bench answers proofs verdict cpp-tests emulated-tests reader-tests comparison setup-tests
+.PHONY: lint clean
+MAKEFLAGS += --no-builtin-rules --no-print-directory
+
+help:
+	@sed -n 's/^# \(make .*\)/\1/p' Makefile
 
 include tools/machine.mk
+include tools/library.mk
 
 # Of all that is installed, as the C header has it; hosts/rust/Cargo.toml has it too.
 VERSION := $(shell sed -n 's/^\#define TIKOMUCI_VERSION "\(.*\)"$$/\1/p' include/tikomuci.h)
@@ -22,129 +33,132 @@ VERSION := $(shell sed -n 's/^\#define TIKOMUCI_VERSION "\(.*\)"$$/\1/p' include
 RUST_SOURCE ?= ../shared/docs/src
 HAS_RUST := $(wildcard $(RUST_SOURCE)/src/bytecode/encoding.rs)
 export TIKOMUCI_RUST_SOURCE := $(abspath $(RUST_SOURCE))
-
-LIBRARY := target/staticlib/libtikomuci.a
-ANSWERS := hosts/rust/boundary/tests/data/answers.txt
-WARNINGS := -Wall -Wextra -Werror -pedantic -Wshadow -Wconversion
-CFLAGS := -std=c99 -O2 $(WARNINGS) -Iinclude
-CXXFLAGS := -std=c++20 -O2 $(WARNINGS) -Iinclude
-TESTS := $(patsubst hosts/cpp/%.cpp,build/%.o,$(wildcard hosts/cpp/tests/*_tests.cpp))
-COMMAND := $(patsubst %.cpp,build/%.o,$(wildcard command/*.cpp))
-CARGO := cargo
 IN_RUST := --manifest-path hosts/rust/Cargo.toml --locked --quiet
+ANSWERS := hosts/rust/boundary/tests/data/answers.txt
 
-help:
-	@sed -n 's/^# \(make .*\)/\1/p' Makefile
+# In the gate a warning is an error; to a user, whose compiler may warn of more, it is none.
+WARNINGS := -Wall -Wextra -pedantic -Wshadow -Wconversion $(if $(filter true,$(CI)),-Werror)
+CFLAGS ?= -O2
+CXXFLAGS ?= -O2
+c99 = $(cc) -std=c99 $(or $(checks),$(CFLAGS)) $(WARNINGS) -Iinclude
+c++20 = $(cxx) -std=c++20 $(or $(checks),$(CXXFLAGS)) $(WARNINGS) -Iinclude
+link = $(cxx) $(or $(checks),$(LDFLAGS)) $(filter %.o %.a,$^) -o $@
 
-demo:
-	rt check
-	$(MAKE) --no-print-directory library build/demo build/example
-	$(RUN) build/demo
-	$(RUN) build/example
+TESTS := $(patsubst hosts/cpp/%.cpp,%.o,$(wildcard hosts/cpp/tests/*_tests.cpp)) tests/header.o
+COMMAND := $(patsubst %.cpp,%.o,$(wildcard command/*.cpp))
 
-# The two sides of the hosts take a core each.
-test:
-	tools/timed "proofs, must-fail edits and programs" $(MAKE) --no-print-directory verdict
-	tools/timed "static library" $(MAKE) --no-print-directory library
-	$(MAKE) --no-print-directory -j2 --output-sync=recurse cpp-side rust-side
+# The gate's steps come one after the other, whatever -j says; the parts of the last, which share nothing that they
+# write, go two at a time.
+ifneq ($(filter test,$(MAKECMDGOALS)),)
+.NOTPARALLEL:
+endif
+TWO = $(if $(findstring -j,$(MAKEFLAGS)),,-j2) --output-sync=target --keep-going
+PARTS := comparison cpp-tests $(if $(EMULATED),emulated-tests) archive-tests install-tests sanitizers threads fuzz \
+    reader-tests setup-tests
 
-cpp-side:
-	tools/timed "C++ tests" $(MAKE) --no-print-directory -j1 cpp-tests
-	tools/timed "install tests" $(MAKE) --no-print-directory -j1 install-tests
-	tools/timed "sanitizers" $(MAKE) --no-print-directory -j1 sanitizers
-	tools/timed "sixty threads" $(MAKE) --no-print-directory -j1 threads
-	tools/timed "fuzzer" $(MAKE) --no-print-directory -j1 fuzz FUZZ_SECONDS=30
+test: build/setup
+	rm -f build/times
+	tools/timed "lint" $(MAKE) lint
+	tools/timed "proofs, must-fail edits and programs" $(MAKE) verdict
+	tools/timed "hosts, two parts at a time" $(MAKE) $(TWO) $(PARTS) FUZZ_SECONDS=30
+	@cat build/times
 
-rust-side:
-	tools/timed "reader tests" $(MAKE) --no-print-directory -j1 reader-tests
-	tools/timed "comparison with the Rust" $(MAKE) --no-print-directory -j1 comparison
+demo: proofs build/demo build/example
+	build/demo
+	build/example
 
-command: library
-	$(MAKE) --no-print-directory build/tikomuci
+proofs: build/setup
+	$(ALONE) $(RT) check
 
-# The verdict is kept outside target/, which rt ci removes.
-verdict:
-	@mkdir -p build
-	rt ci 2>&1 | tee build/ci.log
+# What is tested is made of what the verdict proved: nothing is kept of an earlier proof.
+verdict: build/setup
+	rm -rf build/proved $(LIBRARY) $(X86_64_LIBRARY) build/module
+	$(ALONE) $(RT) ci 2>&1 | tee build/ci.log
 
-library:
-	@mkdir -p build
-	tools/static-library >build/staticlib.log 2>&1 || { cat build/staticlib.log; exit 1; }
+command: build/tikomuci
 
 cpp-tests: build/all_tests build/tikomuci
 	$(CXX) -std=c++11 $(WARNINGS) -fsyntax-only -x c++ include/tikomuci.h
 	for standard in c++17 c++20; do hosts/cpp/tests/must-not-compile $(CXX) -std=$$standard; done
-	hosts/cpp/tests/readme $(LIBRARY) $(RUN) -- $(CXX) -std=c++17 -O2 $(WARNINGS)
-	$(RUN) build/all_tests
-	command/tests $(RUN) build/tikomuci
+	hosts/cpp/tests/readme $(LIBRARY) -- $(CXX) -std=c++17 -O2 $(WARNINGS)
+	tools/timed "C++ tests" build/all_tests
+	tools/timed "command tests" command/tests build/tikomuci
 
-reader-tests:
-	$(CARGO) test $(IN_RUST) --package boundary --test readers --test views --test files
-	$(CARGO) test $(IN_RUST) --package plain --lib
+emulated-tests: build/x86-64/all_tests build/x86-64/tikomuci
+	tools/timed "C++ tests, x86-64" $(RUN) build/x86-64/all_tests
+	tools/timed "command tests, x86-64" command/tests $(RUN) build/x86-64/tikomuci
+	tools/timed "reader tests, x86-64" $(X86_64_CARGO) $(READER_TESTS)
 
-comparison:
+READER_TESTS := test $(IN_RUST) --package boundary --package plain --lib --tests
+reader-tests: $(LIBRARY) | build/setup
+	tools/timed "reader tests" cargo $(READER_TESTS)
+
+comparison: $(X86_64_LIBRARY) | build/setup
 ifneq ($(HAS_RUST),)
-	$(CARGO) run $(IN_RUST) --release --package differential -- $(SEED)
+	tools/timed "comparison with the Rust" $(X86_64_CARGO) run $(IN_RUST) --release --package differential -- $(SEED)
 else ifeq ($(CI),true)
 	@echo "no Rust source at $(RUST_SOURCE): with CI=true the comparison may not be left out" >&2; exit 1
 else
 	@echo "no Rust source at $(RUST_SOURCE): the comparison with encoding.rs and decoder.rs was LEFT OUT"
 endif
 
-bench: library
+bench: $(LIBRARY) | build/setup
 ifneq ($(HAS_RUST),)
-	$(NATIVE_CARGO) run $(IN_RUST) --release --package bench
+	cargo run $(IN_RUST) --release --package bench
 else
 	@echo "no Rust source at $(RUST_SOURCE): there is nothing to measure against" >&2; exit 1
 endif
 
-answers: library
+answers: $(X86_64_LIBRARY) | build/setup
 ifneq ($(HAS_RUST),)
-	$(CARGO) run $(IN_RUST) --release --package differential -- --write-answers $(ANSWERS)
+	$(X86_64_CARGO) run $(IN_RUST) --release --package differential -- --write-answers $(ANSWERS)
 else
 	@echo "no Rust source at $(RUST_SOURCE): there is nobody to ask" >&2; exit 1
 endif
 
-lint:
-	rt fmt --check
-	clang-format --dry-run -Werror include/* command/*.?pp hosts/cpp/*/*.?pp hosts/cpp/*/*.c hosts/cpp/*/*/*.cpp
-	cargo fmt --manifest-path hosts/rust/Cargo.toml --all --check
-	$(NATIVE_CARGO) clippy $(IN_RUST) --workspace --all-targets -- -D warnings
+setup-tests:
+	tools/timed "set-up tests" tools/setup-tests
+
+lint: build/setup
+	tools/lint
 
 clean:
 	rm -rf target build
 
-$(LIBRARY):
-	$(MAKE) --no-print-directory library
+# programs FOLDER LIBRARY: the C++ side below a folder, each with its own compilers and flags, over a library.
+define programs
+$(1)/demo: $(1)/examples/demo.o $(2)
+$(1)/example: $(1)/examples/example.o $(2)
+$(1)/all_tests: $(TESTS:%=$(1)/%) $(2)
+$(1)/tikomuci: $(COMMAND:%=$(1)/%) $(2)
+$(1)/demo $(1)/example $(1)/all_tests $(1)/tikomuci:
+	$$(link)
 
-build/demo build/example: build/%: build/examples/%.o $(LIBRARY)
-	$(CXX) $^ -o $@
-
-build/all_tests: $(TESTS) build/tests/header.o $(LIBRARY)
-	$(CXX) $^ -o $@
-
-build/tikomuci: $(COMMAND) $(LIBRARY)
-	$(CXX) $^ -o $@
-
-build/examples/demo.o build/examples/example.o $(TESTS) $(COMMAND): $(wildcard include/*.hpp)
-build/examples/example.o: hosts/cpp/examples/sample.hpp
-$(TESTS): $(wildcard hosts/cpp/tests/*.hpp)
-$(COMMAND): command/command.hpp
-
-build/%.o: hosts/cpp/%.cpp include/tikomuci.hpp include/tikomuci.h
-	@mkdir -p $(@D)
-	$(CXX) $(CXXFLAGS) $(ONLY) -c $< -o $@
-
-build/command/%.o: command/%.cpp include/tikomuci.hpp include/tikomuci.h
-	@mkdir -p $(@D)
-	$(CXX) $(CXXFLAGS) -c $< -o $@
+$(1)/%.o: hosts/cpp/%.cpp $(1)/flags | build/setup
+	@mkdir -p $$(@D)
+	$$(c++20) $$(only) -MMD -MP -c $$< -o $$@
 
 # What the headers are to C++17 is in one program with what they are to C++20.
-build/tests/cxx17_tests.o build/address/tests/cxx17_tests.o: private ONLY := -std=c++17 -fno-exceptions
+$(1)/tests/cxx17_tests.o: private only := -std=c++17 -fno-exceptions
 
-build/tests/header.o: hosts/cpp/tests/header.c include/tikomuci.h
-	@mkdir -p $(@D)
-	$(CC) $(CFLAGS) -c $< -o $@
+$(1)/%.o: hosts/cpp/%.c $(1)/flags | build/setup
+	@mkdir -p $$(@D)
+	$$(c99) -MMD -MP -c $$< -o $$@
 
-include packaging/install.mk
+$(1)/command/%.o: command/%.cpp $(1)/flags | build/setup
+	@mkdir -p $$(@D)
+	$$(c++20) -MMD -MP -c $$< -o $$@
+
+$(1)/flags: always
+	$$(call written,echo '$$(c99) $$(c++20)')
+endef
+$(eval $(call programs,build,$(LIBRARY)))
+ifneq ($(EMULATED),)
+$(eval $(call programs,build/x86-64,$(X86_64_LIBRARY)))
+endif
+
 include tools/sanitizers.mk
+include packaging/install.mk
+
+# What each object was compiled from, as the compiler said.
+-include $(filter-out build/cargo/%,$(wildcard build/*/*.d build/*/*/*.d))

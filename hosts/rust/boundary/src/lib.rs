@@ -1,5 +1,7 @@
 //! The calls of include/tikomuci.h, over slices.
 
+use std::mem::{align_of, offset_of, size_of};
+
 /// What a call answers, as tikomuci.h says.
 #[repr(C)]
 #[derive(Debug, Clone, Copy, Default, PartialEq, Eq)]
@@ -9,6 +11,13 @@ pub struct Answer {
     pub first: u64,
     pub second: u64,
 }
+
+// The layout of `tikomuci_answer`, which tikomuci.h fixes for its own side.
+const _: () = {
+    assert!(size_of::<Answer>() == 32 && align_of::<Answer>() == 8);
+    assert!(offset_of!(Answer, refusal) == 0 && offset_of!(Answer, stage) == 8);
+    assert!(offset_of!(Answer, first) == 16 && offset_of!(Answer, second) == 24);
+};
 
 impl Answer {
     /// A refusal of a call that reads no container: it stands at stage 10.
