@@ -79,7 +79,8 @@ command: build/tikomuci
 
 cpp-tests: build/all_tests build/tikomuci
 	$(CXX) -std=c++11 $(WARNINGS) -fsyntax-only -x c++ include/tikomuci.h
-	$(c++20) -fno-exceptions -fsyntax-only -x c++ include/tikomuci_tables.hpp
+	for standard in c++17 c++20; do hosts/cpp/tests/must-not-compile $(CXX) -std=$$standard; done
+	hosts/cpp/tests/readme $(LIBRARY) -- $(CXX) -std=c++17 -O2 $(WARNINGS)
 	tools/timed "C++ tests" build/all_tests
 	tools/timed "command tests" command/tests build/tikomuci
 
@@ -135,7 +136,10 @@ $(1)/demo $(1)/example $(1)/all_tests $(1)/tikomuci:
 
 $(1)/%.o: hosts/cpp/%.cpp $(1)/flags | build/setup
 	@mkdir -p $$(@D)
-	$$(c++20) -MMD -MP -c $$< -o $$@
+	$$(c++20) $$(only) -MMD -MP -c $$< -o $$@
+
+# What the headers are to C++17 is in one program with what they are to C++20.
+$(1)/tests/cxx17_tests.o: private only := -std=c++17 -fno-exceptions
 
 $(1)/%.o: hosts/cpp/%.c $(1)/flags | build/setup
 	@mkdir -p $$(@D)

@@ -15,6 +15,7 @@ namespace {
 using tikomuci::Bytes;
 using tikomuci::Outcome;
 using tikomuci::Reader;
+using tikomuci::Section;
 using tikomuci::Writer;
 
 std::string hex(Bytes bytes) {
@@ -34,7 +35,8 @@ std::string said(Outcome outcome) {
     if (outcome) {
         return "accepted";
     }
-    return "refusal " + std::to_string(outcome.refusal) + ", stage " + std::to_string(outcome.stage);
+    return "refusal " + std::to_string(number_of(outcome.refusal)) + ", stage " +
+           std::to_string(number_of(outcome.stage));
 }
 
 void heading(const char *text) { std::printf("\n%s\n", text); }
@@ -78,7 +80,7 @@ void read_spellings() {
         {0xAC}};
     for (const auto &spelling : spellings) {
         const auto got = Reader(spelling).varint();
-        const std::string answer = got ? std::to_string(got.value) : said(got.outcome);
+        const std::string answer = got ? std::to_string(*got) : said(got.outcome());
         std::printf("  %-34s %s\n", hex(spelling).c_str(), answer.c_str());
     }
 }
@@ -88,15 +90,15 @@ void read_counted_array() {
     const std::vector<std::uint8_t> wire = {0x03, 0x01, 0x00, 0x00, 0x00, 0xFE, 0xFF,
                                             0xFF, 0xFF, 0x2C, 0x01, 0x00, 0x00};
     const auto whole = Reader(wire).le_var_size_i32();
-    must(whole.outcome);
-    Reader numbers(whole.value);
+    must(whole.outcome());
+    Reader numbers(*whole);
     while (numbers.remaining() != 0) {
         const auto number = numbers.le_i32();
-        must(number.outcome);
-        std::printf("  %d\n", number.value);
+        must(number.outcome());
+        std::printf("  %d\n", *number);
     }
     const auto cut = Reader(Bytes(wire).first(wire.size() - 1)).le_var_size_i32();
-    std::printf("  one byte shorter: %s\n", said(cut.outcome).c_str());
+    std::printf("  one byte shorter: %s\n", said(cut.outcome()).c_str());
 }
 
 // Document 01's whole case: a file with one String section, which holds "a" and "bc".
@@ -108,29 +110,29 @@ std::vector<std::uint8_t> whole_case() {
 void view_a_section() {
     heading("A section of a file, and the same file with a length that reaches too far");
     std::vector<std::uint8_t> file = whole_case();
-    const auto strings = tikomuci::section(file, TIKOMUCI_SECTION_STRING);
-    must(strings.outcome);
-    std::printf("  String   %s\n", hex(strings.value).c_str());
-    const auto constants = tikomuci::section(file, TIKOMUCI_SECTION_CONSTANT);
-    std::printf("  Constant %s\n", said(constants.outcome).c_str());
+    const auto strings = tikomuci::section(file, Section::String);
+    must(strings.outcome());
+    std::printf("  String   %s\n", hex(*strings).c_str());
+    const auto constants = tikomuci::section(file, Section::Constant);
+    std::printf("  Constant %s\n", said(constants.outcome()).c_str());
     file[13] = 0x7F;
-    std::printf("  damaged  %s\n", said(tikomuci::section(file, TIKOMUCI_SECTION_STRING).outcome).c_str());
+    std::printf("  damaged  %s\n", said(tikomuci::section(file, Section::String).outcome()).c_str());
 }
 
 void read_tables() {
     heading("The tables of the file, and what is said of it when a string starts after its end");
     std::vector<std::uint8_t> file = whole_case();
     const auto tables = tikomuci::read(file);
-    must(tables.outcome);
-    const tikomuci::Sheet &sheet = tables.value.sheet;
-    std::printf("  %zu words, %zu bytes of pool, %zu strings\n", tables.value.words.size(), tables.value.pool.size(),
-                sheet.strings());
-    for (std::uint64_t i = 0; i <= sheet.strings(); ++i) {
-        const auto row = sheet.string(i);
-        std::printf("  string %llu  %s\n", static_cast<unsigned long long>(i), row ? hex(*row).c_str() : "not there");
+    must(tables.outcome());
+    const tikomuci::Sheet &sheet = tables->sheet();
+    std::printf("  %zu words, %zu bytes of pool, %zu strings\n", sheet.bytes().size() / 8, sheet.pool().size(),
+                sheet.strings().size());
+    for (const Bytes row : sheet.strings()) {
+        std::printf("  string    %s\n", hex(row).c_str());
     }
+    std::printf("  string 2  %s\n", sheet.string(2) ? "there" : "not there");
     file[20] = 2;
-    const Outcome refused = tikomuci::read(file).outcome;
+    const Outcome refused = tikomuci::read(file).outcome();
     std::printf("  %s: %s, %s\n", said(refused).c_str(), tikomuci::refusal_text(refused.refusal).data(),
                 tikomuci::stage_text(refused.stage).data());
 }
@@ -147,7 +149,7 @@ void keep_to_the_lent_bytes() {
     const Bytes lent = Bytes(cache).first(9);
     std::printf("  lent      %s\n", hex(lent).c_str());
     std::printf("  beside it %s\n", hex(Bytes(cache).subspan(9, 13)).c_str());
-    std::printf("  read      %s\n", said(Reader(lent).le_var_size_i32().outcome).c_str());
+    std::printf("  read      %s\n", said(Reader(lent).le_var_size_i32().outcome()).c_str());
 }
 
 void refuse_and_leave_alone() {
@@ -172,10 +174,10 @@ void pad() {
                 static_cast<unsigned long long>(writer.required_alignment()));
     std::printf("  %s\n", hex(out).c_str());
     const auto passed = Reader(out, 5).skip_padding(8);
-    must(passed.outcome);
-    std::printf("  read back: %llu padding bytes\n", static_cast<unsigned long long>(passed.value));
+    must(passed.outcome());
+    std::printf("  read back: %llu padding bytes\n", static_cast<unsigned long long>(*passed));
     out[6] = 0;
-    std::printf("  with one of them cleared: %s\n", said(Reader(out, 5).skip_padding(8).outcome).c_str());
+    std::printf("  with one of them cleared: %s\n", said(Reader(out, 5).skip_padding(8).outcome()).c_str());
 }
 
 void convert_floats() {

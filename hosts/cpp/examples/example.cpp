@@ -51,8 +51,7 @@ std::string name(const Sheet &sheet, std::uint64_t i) {
 
 std::string kind(const Sheet &sheet, std::uint64_t i) {
     const auto row = sheet.type(i);
-    return row ? std::string(tikomuci::type_name(static_cast<std::uint64_t>(row->tag)))
-               : "(no type " + std::to_string(i) + ")";
+    return row ? std::string(tikomuci::type_name(row->tag)) : "(no type " + std::to_string(i) + ")";
 }
 
 // A type by its kind; of a tile, its shape and the kind of its elements too.
@@ -71,34 +70,34 @@ std::string type(const Sheet &sheet, std::uint64_t i) {
 
 void show_functions(const Sheet &sheet) {
     std::cout << "\nfunction  kind    visible  bytes     name\n";
-    for (std::uint64_t i = 0; i < sheet.functions(); ++i) {
-        const auto row = sheet.function(i);  // a std::optional, which is empty for a number that no row has
-        std::cout << std::setw(8) << i << std::left << "  " << (row->is_kernel() ? "kernel  " : "helper  ")
-                  << std::setw(9) << (row->is_private() ? "private" : "public") << std::setw(10) << row->body.size()
-                  << name(sheet, row->name) << std::right << "\n";
+    std::size_t number = 0;
+    for (const tikomuci::Function &row : sheet.functions()) {
+        std::cout << std::setw(8) << number++ << std::left << "  " << (row.is_kernel() ? "kernel  " : "helper  ")
+                  << std::setw(9) << (row.is_private() ? "private" : "public") << std::setw(10) << row.body.size()
+                  << name(sheet, row.name) << std::right << "\n";
     }
 }
 
 // The size of the constant says whether the global has its data: a file may name a constant that is not there.
 void show_globals(const Sheet &sheet) {
     std::cout << "\n  global  constant  bytes   type              name\n";
-    for (std::uint64_t i = 0; i < sheet.globals(); ++i) {
-        const auto row = sheet.global(i);
-        const auto data = sheet.constant(row->constant);
-        std::cout << std::setw(8) << i << std::left << "  " << std::setw(10) << row->constant << std::setw(8)
-                  << (data ? std::to_string(data->size()) : "none") << std::setw(18) << type(sheet, row->type)
-                  << name(sheet, row->name) << std::right << "\n";
+    std::size_t number = 0;
+    for (const tikomuci::Global &row : sheet.globals()) {
+        const auto data = sheet.constant(row.constant);  // a std::optional: empty for a number that no row has
+        std::cout << std::setw(8) << number++ << std::left << "  " << std::setw(10) << row.constant << std::setw(8)
+                  << (data ? std::to_string(data->size()) : "none") << std::setw(18) << type(sheet, row.type)
+                  << name(sheet, row.name) << std::right << "\n";
     }
 }
 
 // The view is a part of the file, exactly the bytes of that constant.
 void show_constant(Bytes file, std::uint64_t i) {
     const auto view = tikomuci::constant(file, i);
-    must(view.outcome);
-    std::cout << "\nconstant " << i << ": " << view.value.size() << " bytes from offset "
-              << view.value.data() - file.data() << " of the file on" << std::hex << std::setfill('0');
-    for (std::size_t at = 0; at < view.value.size(); ++at) {
-        std::cout << (at % 16 == 0 ? "\n  " : " ") << std::setw(2) << unsigned{view.value[at]};
+    must(view.outcome());
+    std::cout << "\nconstant " << i << ": " << view->size() << " bytes from offset " << view->data() - file.data()
+              << " of the file on" << std::hex << std::setfill('0');
+    for (std::size_t at = 0; at < view->size(); ++at) {
+        std::cout << (at % 16 == 0 ? "\n  " : " ") << std::setw(2) << unsigned{(*view)[at]};
     }
     std::cout << std::dec << std::setfill(' ') << "\n";
 }
@@ -106,16 +105,16 @@ void show_constant(Bytes file, std::uint64_t i) {
 // Shows the tables, and then the constant that was asked for; if none was, the first one, where there is one.
 void show(const File &file, std::optional<std::uint64_t> asked) {
     const auto tables = tikomuci::read(file);
-    must(tables.outcome);
-    const Sheet &sheet = tables.value.sheet;
+    must(tables.outcome());
+    const Sheet &sheet = tables->sheet();
     std::cout << "Tile IR bytecode " << unsigned{sheet.version().major} << "." << unsigned{sheet.version().minor}
               << ", made by " << (sheet.producer() ? name(sheet, *sheet.producer()) : "(not said)") << "\n"
-              << sheet.functions() << " functions, " << sheet.globals() << " globals, " << sheet.constants()
-              << " constants, " << sheet.types() << " types, " << sheet.strings() << " strings, " << sheet.attributes()
-              << " debug attributes\n";
+              << sheet.functions().size() << " functions, " << sheet.globals().size() << " globals, "
+              << sheet.constants().size() << " constants, " << sheet.types().size() << " types, "
+              << sheet.strings().size() << " strings, " << sheet.attributes().size() << " debug attributes\n";
     show_functions(sheet);
     show_globals(sheet);
-    if (asked || sheet.constants() != 0) {
+    if (asked || !sheet.constants().empty()) {
         show_constant(file, asked.value_or(0));
     }
 }

@@ -6,7 +6,6 @@
 #include <algorithm>
 #include <cstdio>
 #include <cstdlib>
-#include <limits>
 
 #include "../tests/check.hpp"
 #include "tikomuci_tables.hpp"
@@ -17,8 +16,6 @@ using tikomuci::Bytes;
 using tikomuci::Outcome;
 using tikomuci::Output;
 using tikomuci::Size;
-
-constexpr std::uint64_t FAR = std::numeric_limits<std::uint64_t>::max();
 
 inline void claim(bool holds, const char *what) {
     if (!holds) {

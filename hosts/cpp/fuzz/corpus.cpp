@@ -6,170 +6,167 @@
 #include <exception>
 #include <filesystem>
 #include <fstream>
-#include <limits>
 #include <stdexcept>
 #include <string>
 #include <vector>
 
-#include "../tests/draft.hpp"
-#include "tikomuci_tables.hpp"
+#include "../tests/check.hpp"
+#include "tikomuci_builder.hpp"
 
 namespace {
 
-using Row = Draft::Row;
+using tikomuci::Builder;
 using tikomuci::TypeTag;
 
-constexpr std::uint64_t FAR = std::numeric_limits<std::uint64_t>::max();
-constexpr std::uint64_t FIRST_WITH_FLAGS = 3;
+constexpr std::uint8_t FIRST_WITH_FLAGS = 3;
 
 struct Seed {
     std::string name;
-    Draft draft;
+    Builder tables;
 };
 
-Wire text(const std::string &letters) { return Wire(letters.begin(), letters.end()); }
+Builder made(std::uint8_t minor) { return Builder({13, minor, 0}); }
 
-Row type(TypeTag tag, const Row &fields) {
-    Row row = {static_cast<std::uint64_t>(tag)};
-    row.insert(row.end(), fields.begin(), fields.end());
-    return row;
+Builder strings() {
+    Builder tables = made(1);
+    tables.string("a");
+    tables.string("");
+    tables.string("bc");
+    return tables;
 }
 
-Draft strings() {
-    Draft draft;
-    draft.minor = 1;
-    draft.strings = {text("a"), {}, text("bc")};
-    return draft;
+Builder named() {
+    Builder tables = strings();
+    tables.producer(2);
+    return tables;
 }
 
-Draft named() {
-    Draft draft = strings();
-    draft.producer = 3;
-    return draft;
-}
-
-// The sixteen scalars and the token.
-Draft scalars() {
-    Draft draft;
-    for (std::uint64_t tag = 0; tag < 256; ++tag) {
-        if (const auto known = tikomuci::type_of(Row{tag}); known && known->kind.index() == 0) {
-            draft.types.push_back({tag});
+// The sixteen scalars and the token: the types that are well-formed without a field.
+Builder scalars() {
+    Builder tables = made(4);
+    for (unsigned number = 0; number < 256; ++number) {
+        const auto tag = static_cast<TypeTag>(number);
+        Builder alone = made(4);
+        alone.scalar(tag);
+        if (alone.file()) {
+            tables.scalar(tag);
         }
     }
-    return draft;
+    return tables;
 }
 
-// The types that have fields. What a version below has no flags for has 0 in their place.
-Draft pointers(std::uint64_t minor) {
-    const std::uint64_t flags = minor > FIRST_WITH_FLAGS ? 1 : 0;
-    Draft draft;
-    draft.minor = minor;
-    draft.types = {
-        type(TypeTag::Pointer, {0, 300, 0}),
-        type(TypeTag::Pointer, {flags, 1, 7 * flags}),
-        type(TypeTag::Tile, {2, 2, 8, FAR}),
-        type(TypeTag::TensorView, {0, 0, 1, 4, 1, 1, 0}),
-        type(TypeTag::TensorView, {flags, 0, 0, 0, 3 * flags}),
-    };
-    return draft;
+// The types that have fields. A version below 13.4 has no attributes here.
+Builder pointers(std::uint8_t minor) {
+    const bool flags = minor > FIRST_WITH_FLAGS;
+    Builder tables = made(minor);
+    tables.pointer(300);
+    tables.pointer(1, flags ? std::optional<std::uint64_t>(7) : std::nullopt);
+    tables.tile(2, {8, -1});
+    tables.tensor_view(0, {4}, {1});
+    tables.tensor_view(0, {}, {}, flags ? std::optional<std::uint64_t>(3) : std::nullopt);
+    return tables;
 }
 
 // A partition's padding is a varint below 13.3 and a byte from then on.
-Draft views(std::uint64_t minor) {
-    const std::uint64_t padding = minor < FIRST_WITH_FLAGS ? 300 : 9;
-    Draft draft;
-    draft.minor = minor;
-    draft.types = {
-        type(TypeTag::PartitionView, {0, 1, 2, 0, 0, 0}),
-        type(TypeTag::PartitionView, {1, 2, 2, 0xFFFFFFFD, 4, 1, 0, padding}),
-        type(TypeTag::GatherScatterView, {0, 1, 5, 4, 1, 0}),
-        type(TypeTag::GatherScatterView, {1, 0, 4, 0, 2}),
-        type(TypeTag::StridedView, {0, 1, 6, 1, 7, 4, 1, 0xFFFFFFF8, 0}),
-        type(TypeTag::StridedView, {3, 0, 0, 4, 0, 255}),
-        type(TypeTag::Func, {2, 0, 1, 1, 3}),
-        type(TypeTag::Func, {0, 0}),
-    };
-    return draft;
+Builder views(std::uint8_t minor) {
+    Builder tables = made(minor);
+    tables.partition_view({2}, 0, {});
+    tables.partition_view({2, -3}, 4, {0}, minor < FIRST_WITH_FLAGS ? 300 : 9);
+    tables.gather_scatter_view({5}, 4, 1);
+    tables.gather_scatter_view({}, 4, 0, 2);
+    tables.strided_view({6}, {7}, 4, {-8});
+    tables.strided_view({}, {}, 4, {}, 255, 2);
+    tables.func({0, 1}, {3});
+    tables.func({}, {});
+    return tables;
 }
 
-Draft constants() {
-    Draft draft;
-    draft.constants = {{0xDE, 0xAD, 0xBE}, {}, Wire(9, 0xFF), {0}};
-    return draft;
+Builder constants() {
+    Builder tables = made(4);
+    tables.constant(Wire{0xDE, 0xAD, 0xBE});
+    tables.constant({});
+    tables.constant(Wire(9, 0xFF));
+    tables.constant(Wire{0});
+    return tables;
 }
 
 // Visibility and the constant flag are there from 13.3 on.
-Draft globals(std::uint64_t minor) {
-    const std::uint64_t one = minor < FIRST_WITH_FLAGS ? 0 : 1;
-    Draft draft;
-    draft.minor = minor;
-    draft.globals = {{0, 1, 2, 16, one, one}, {FAR, 300, 0, 0, 255 * one, 0}};
-    return draft;
+Builder globals(std::uint8_t minor) {
+    const bool flags = minor >= FIRST_WITH_FLAGS;
+    Builder tables = made(minor);
+    tables.global({0, 1, 2, 16, flags ? 1U : 0U, flags});
+    tables.global({FAR, 300, 0, 0, flags ? 255U : 0U, false});
+    return tables;
 }
 
-Draft functions() {
-    Draft draft;
-    draft.functions = {{{0, 0, 2, 1}, {0x0A, 0x0B}}, {{1, 300, 1, FAR}, {}}, {{0, 0, 0xFB, 0}, Wire(130, 0x11)}};
-    return draft;
+Builder functions() {
+    Builder tables = made(4);
+    tables.function({0, 0, 2, 1, Wire{0x0A, 0x0B}});
+    tables.function({1, 300, 1, FAR, {}});
+    tables.function({0, 0, 0xFB, 0, Wire(130, 0x11)});
+    return tables;
 }
 
-Draft attributes() {
-    Draft draft;
-    for (std::uint64_t tag = 0; tag < tikomuci::DEBUG_FIELDS.size(); ++tag) {
-        Row row(7, 0);
-        row[0] = tag;
-        for (std::uint64_t field = 1; field <= tikomuci::DEBUG_FIELDS[tag]; ++field) {
-            row[field] = tag * 100 + field;
-        }
-        draft.attributes.push_back(row);
-    }
-    return draft;
+Builder attributes() {
+    Builder tables = made(4);
+    tables.unknown();
+    tables.di_compile_unit(101);
+    tables.di_file(201, 202);
+    tables.di_lexical_block(301, 302, 303, 304);
+    tables.di_loc(401, 402, 403, 404);
+    tables.di_subprogram(501, 502, 503, 504, 505, 506);
+    tables.call_site(601, 602);
+    return tables;
 }
 
-Draft lists() {
-    Draft draft;
-    draft.lists = {{1, 2}, {}, {FAR}};
-    return draft;
+Builder lists() {
+    Builder tables = made(4);
+    tables.list({1, 2});
+    tables.list({});
+    tables.list({FAR});
+    return tables;
 }
 
 // A row in every table.
-Draft every_row() {
-    Draft draft;
-    draft.producer = 2;
-    draft.strings = {text("k"), text("main")};
-    draft.types = {type(TypeTag::I32, {}), type(TypeTag::Func, {1, 0, 0})};
-    draft.constants = {{0xDE, 0xAD, 0xBE}};
-    draft.globals = {{0, 0, 0, 16, 1, 1}};
-    draft.functions = {{{1, 1, 2, 1}, {0x0A, 0x0B, 0x0C, 0x0D}}};
-    draft.attributes = {{2, 0, 1, 0, 0, 0, 0}};
-    draft.lists = {{1}};
-    return draft;
+Builder every_row() {
+    Builder tables = made(4);
+    const std::uint64_t k = tables.string("k");
+    const std::uint64_t name = tables.string("main");
+    tables.producer(name);
+    const std::uint64_t i32 = tables.scalar(TypeTag::I32);
+    const std::uint64_t signature = tables.func({i32}, {});
+    const std::uint64_t constant = tables.constant(Wire{0xDE, 0xAD, 0xBE});
+    tables.global({k, i32, constant, 16, 1, true});
+    const std::uint64_t location = tables.di_file(k, name);
+    tables.function({name, signature, TIKOMUCI_FUNCTION_KERNEL, location, Wire{0x0A, 0x0B, 0x0C, 0x0D}});
+    tables.list({location});
+    return tables;
 }
 
 std::vector<Seed> seeds() {
     std::vector<Seed> seeds = {
-        {"nothing", {}},
-        {"strings", strings()},
-        {"producer", named()},
-        {"scalars", scalars()},
-        {"constants", constants()},
-        {"globals-13.2", globals(2)},
-        {"globals-13.3", globals(3)},
-        {"functions", functions()},
-        {"attributes", attributes()},
-        {"lists", lists()},
-        {"every", every_row()},
+        {"nothing", made(4)},         {"strings", strings()},     {"producer", named()},
+        {"scalars", scalars()},       {"constants", constants()}, {"globals-13.2", globals(2)},
+        {"globals-13.3", globals(3)}, {"functions", functions()}, {"attributes", attributes()},
+        {"lists", lists()},           {"every", every_row()},
     };
-    for (const std::uint64_t minor : {1U, 3U, 4U}) {
+    for (const std::uint8_t minor : {std::uint8_t{1}, std::uint8_t{3}, std::uint8_t{4}}) {
         seeds.push_back({"pointers-13." + std::to_string(minor), pointers(minor)});
         seeds.push_back({"views-13." + std::to_string(minor), views(minor)});
     }
     return seeds;
 }
 
+Wire file_of(const Seed &seed) {
+    const auto file = seed.tables.file();
+    if (!file) {
+        throw std::logic_error(seed.name + " is not well-formed");
+    }
+    return *file;
+}
+
 // An input of the sheet target: flags, the sheet's length, the sheet and the pool.
-Wire handed(std::uint8_t flags, const Row &words, const Wire &pool) {
-    const Wire sheet = little_endian(words);
+Wire handed(std::uint8_t flags, const Wire &sheet, const Wire &pool) {
     Wire input = {flags, static_cast<std::uint8_t>(sheet.size()), static_cast<std::uint8_t>(sheet.size() >> 8)};
     input.insert(input.end(), sheet.begin(), sheet.end());
     input.insert(input.end(), pool.begin(), pool.end());
@@ -178,11 +175,15 @@ Wire handed(std::uint8_t flags, const Row &words, const Wire &pool) {
 
 // Two strings, the first of this length: too long for the second's start or for any file, and there is no pool.
 Wire far_start(std::uint64_t length) {
-    Draft draft;
-    draft.strings = {{}, {}};
-    Row sheet = draft.sheet();
-    sheet[4] = length;
-    sheet[19] = length;
+    Builder tables = made(4);
+    tables.string("");
+    tables.string("");
+    Wire sheet = tables.sheet();
+    for (const std::uint64_t word : {4, TIKOMUCI_CONTENTS_WORDS}) {
+        if (!tikomuci::patch_u64(sheet, 8 * word, length)) {
+            throw std::logic_error("a sheet without strings");
+        }
+    }
     return handed(0, sheet, {});
 }
 
@@ -199,15 +200,15 @@ void save_all(const std::filesystem::path &folder) {
     const std::filesystem::path sheets = folder / "sheet";
     std::filesystem::create_directories(files);
     std::filesystem::create_directories(sheets);
-    for (const auto &[name, draft] : seeds()) {
-        save(files / name, draft.file());
+    for (const Seed &seed : seeds()) {
+        save(files / seed.name, file_of(seed));
     }
     // A sheet's version is a word like any other, which the fuzzer changes: one sheet for each kind of row is enough.
-    for (const auto &[name, draft] :
+    for (const auto &[name, tables] :
          {Seed{"every", every_row()}, Seed{"pointers", pointers(4)}, Seed{"views", views(2)},
           Seed{"globals", globals(3)}, Seed{"functions", functions()}, Seed{"attributes", attributes()},
           Seed{"lists", lists()}}) {
-        save(sheets / name, handed(1, draft.sheet(), draft.pool()));
+        save(sheets / name, handed(1, tables.sheet(), tables.pool()));
     }
     save(sheets / "start", far_start(std::uint64_t{1} << 32));
     save(sheets / "limit", far_start(std::uint64_t{1} << 31));

@@ -1,5 +1,5 @@
-// A fuzz target: any words and bytes as a handed sheet and its pool, through image and write; and what was written,
-// through measure and read.
+// A fuzz target: any words and bytes as a handed sheet and its pool, through image and write, and as rows; and what was
+// written, through measure and read.
 //
 // An input has a byte of flags, two bytes that say how long the sheet is, the sheet and the pool. If bit 0 of the flags
 // is set, the pool gets the length that the sheet says: else few sheets that the fuzzer makes would have their pool.
@@ -7,11 +7,16 @@
 #include <initializer_list>
 #include <optional>
 
+#include "../tests/walk.hpp"
 #include "claims.hpp"
+#include "tikomuci_builder.hpp"
 
 namespace {
 
 using namespace fuzz;
+using tikomuci::Refusal;
+using tikomuci::Sheet;
+using tikomuci::Stage;
 
 constexpr std::size_t HEAD = 3;
 constexpr std::size_t POOL_LENGTH_WORD = 4;
@@ -20,12 +25,12 @@ constexpr std::size_t LONGEST_POOL = 4096;
 // What a sheet says its pool's length is; nothing if it is too short to say so.
 std::optional<std::uint64_t> pool_length(Bytes sheet) {
     const auto word = tikomuci::Reader(sheet, 8 * POOL_LENGTH_WORD).le_u64();
-    return word ? std::optional(word.value) : std::nullopt;
+    return word ? std::optional(*word) : std::nullopt;
 }
 
 Stores handed(Bytes input) {
     const Bytes rest = input.subspan(HEAD);
-    const std::size_t size = std::min<std::size_t>(rest.size(), tikomuci::Reader(input, 1).le_u16().value);
+    const std::size_t size = std::min<std::size_t>(rest.size(), tikomuci::Reader(input, 1).le_u16().value_or(0));
     const auto end = rest.begin() + static_cast<std::ptrdiff_t>(size);
     Stores stores{Wire(rest.begin(), end), Wire(end, rest.end())};
     const std::uint64_t length = pool_length(stores.sheet).value_or(0);
@@ -40,13 +45,51 @@ Outcome wanted_of(const Stores &stores, Outcome measured) {
     return pool_length(stores.sheet) == stores.pool.size() ? measured : SHEET;
 }
 
-void judged(const tikomuci::Got<std::uint64_t> &measured) {
-    const bool known = measured || measured.outcome.refusal == TIKOMUCI_REFUSAL_SHEET ||
-                       measured.outcome.refusal == TIKOMUCI_REFUSAL_START ||
-                       measured.outcome.refusal == TIKOMUCI_REFUSAL_LIMIT;
+void judged(Outcome measured) {
+    const bool known = measured.refusal == Refusal::None || measured.refusal == Refusal::Sheet ||
+                       measured.refusal == Refusal::Start || measured.refusal == Refusal::Limit;
     claim(known, "a sheet is refused with 12, 13 or 1");
-    claim(measured.outcome.stage == (measured ? 0 : TIKOMUCI_STAGE_CALL), "a sheet is refused at stage 10");
-    claim(measured || measured.value == 0, "a refused sheet has no size");
+    claim(measured.stage == (measured ? Stage::Limits : Stage::Call), "a sheet is refused at stage 10");
+}
+
+// The rows of a sheet are the same by each way that leads to them; then somebody writes what else there is over the
+// words and over the index, and each way still stays inside.
+void walked(Stores stores, Bytes other) {
+    const auto sheet = Sheet::open(stores.sheet, stores.pool);
+    auto indexed = Sheet::open(stores.sheet, stores.pool);
+    claim(sheet && indexed, "a sheet that was opened is opened again");
+    const walk::Sums rows = walk::by_range(*sheet);
+    claim(walk::by_number(*sheet) == rows, "the row of a number is that of the range");
+    std::vector<std::uint32_t> index(indexed->index_size());
+    claim(indexed->index(index) == Outcome{}, "a store of the index's size suffices");
+    claim(walk::by_number(*indexed) == rows, "the row of a number is the same by an index");
+    claim(walk::rows_outside(*sheet) == 0 && walk::rows_outside(*indexed) == 0, "no row behind the last");
+    for (std::size_t i = 0; i < stores.sheet.size(); ++i) {
+        stores.sheet[i] = other[i % other.size()];
+    }
+    claim(walk::by_range(*sheet).size() == rows.size() && walk::by_number(*sheet).size() == rows.size() &&
+              walk::by_number(*indexed).size() == rows.size(),
+          "a sheet has as many rows as it had, whatever became of its words");
+    for (std::size_t i = 0; i < index.size(); ++i) {
+        index[i] = other[i % other.size()] * 0x01010101U;
+    }
+    claim(walk::by_number(*indexed).size() == rows.size(), "nor does the index matter");
+}
+
+// A well-formed sheet is opened, and a builder that is given its rows makes the same sheet and pool. What is opened and
+// not well-formed is only walked.
+void opened(const Stores &stores, bool well_formed, Bytes other) {
+    const auto sheet = Sheet::open(stores.sheet, stores.pool);
+    claim(sheet || sheet.outcome() == SHEET, "a sheet is opened, or is none");
+    claim(sheet || !well_formed, "a well-formed sheet is opened");
+    if (!sheet) {
+        return;
+    }
+    claim(same(sheet->bytes(), stores.sheet) && same(sheet->pool(), stores.pool), "a sheet has its stores");
+    walked(stores, other);
+    const tikomuci::Builder again(*sheet);
+    claim(!well_formed || (again.sheet() == stores.sheet && again.pool() == stores.pool),
+          "the rows of a sheet make the same sheet again");
 }
 
 }  // namespace
@@ -55,11 +98,12 @@ extern "C" int LLVMFuzzerTestOneInput(const std::uint8_t *data, std::size_t size
     if (size < HEAD) {
         return 0;
     }
-    const Stores stores = handed(Bytes(data, size));
+    const Bytes input(data, size);
+    const Stores stores = handed(input);
     const Stores lent = stores;
-    const auto measured = tikomuci::image(lent.sheet);
+    const Outcome measured = tikomuci::image(lent.sheet).outcome();
     judged(measured);
-    const Outcome wanted = wanted_of(lent, measured.outcome);
+    const Outcome wanted = wanted_of(lent, measured);
     if (wanted) {
         written_and_back(lent.sheet, lent.pool);
     } else {
@@ -68,5 +112,6 @@ extern "C" int LLVMFuzzerTestOneInput(const std::uint8_t *data, std::size_t size
         }
     }
     claim(same(lent.sheet, stores.sheet) && same(lent.pool, stores.pool), "a sheet that is written stays as it is");
+    opened(stores, static_cast<bool>(wanted), input);
     return 0;
 }

@@ -4,6 +4,7 @@
 
 #include <cstdint>
 #include <cstdio>
+#include <limits>
 #include <string>
 #include <vector>
 
@@ -12,9 +13,10 @@
 using Wire = std::vector<std::uint8_t>;
 
 constexpr std::uint8_t CANARY = 0xA5;
-constexpr tikomuci::Outcome FULL{TIKOMUCI_REFUSAL_FULL, TIKOMUCI_STAGE_CALL};
-constexpr tikomuci::Outcome SHEET{TIKOMUCI_REFUSAL_SHEET, TIKOMUCI_STAGE_CALL};
-constexpr tikomuci::Outcome ABSENT{TIKOMUCI_REFUSAL_ABSENT, TIKOMUCI_STAGE_CALL};
+constexpr tikomuci::Outcome FULL{tikomuci::Refusal::Full, tikomuci::Stage::Call};
+constexpr tikomuci::Outcome SHEET{tikomuci::Refusal::Sheet, tikomuci::Stage::Call};
+constexpr tikomuci::Outcome ABSENT{tikomuci::Refusal::Absent, tikomuci::Stage::Call};
+constexpr std::uint64_t FAR = std::numeric_limits<std::uint64_t>::max();
 
 inline int passed = 0;
 inline int failed = 0;

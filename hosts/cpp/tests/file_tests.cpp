@@ -2,7 +2,6 @@
 
 #include <algorithm>
 #include <array>
-#include <limits>
 #include <stdexcept>
 #include <string>
 #include <vector>
@@ -15,10 +14,10 @@ using tikomuci::Bytes;
 using tikomuci::Outcome;
 using tikomuci::outcome_of;
 using tikomuci::Output;
+using tikomuci::Refusal;
 using tikomuci::Size;
+using tikomuci::Stage;
 using Sheet = std::vector<std::uint64_t>;
-
-constexpr std::uint64_t FAR = std::numeric_limits<std::uint64_t>::max();
 
 // A file, and what has to be read from it.
 struct Case {
@@ -52,8 +51,8 @@ void reads_into(const Case &c, std::size_t shift, std::size_t room, std::size_t 
     const auto size = tikomuci::read(c.file, Output(sheet).subspan(shift, room), Output(pool).subspan(3, pool_room));
     const std::string where = c.what + ", read into " + std::to_string(room) + " and " + std::to_string(pool_room) +
                               " bytes at " + std::to_string(shift);
-    expect(size.outcome == (fits ? Outcome{} : FULL), where + ": the outcome");
-    expect(size.value == (fits ? Size{c.sheet.size(), c.pool.size()} : Size{}), where + ": the sizes");
+    expect(size.outcome() == (fits ? Outcome{} : FULL), where + ": the outcome");
+    expect(size.value_or(Size{}) == (fits ? Size{c.sheet.size(), c.pool.size()} : Size{}), where + ": the sizes");
     expect(sheet == wanted_sheet, where + ": the sheet");
     expect(pool == wanted_pool, where + ": the pool");
 }
@@ -71,7 +70,7 @@ std::vector<std::size_t> rooms_around(std::size_t need, std::size_t unit) {
 void stores() {
     for (const Case &c : cases()) {
         const auto size = tikomuci::measure(c.file);
-        expect(size && size.value == Size{c.sheet.size(), c.pool.size()}, c.what + ", measured");
+        expect(size && *size == Size{c.sheet.size(), c.pool.size()}, c.what + ", measured");
         for (const std::size_t room : rooms_around(c.sheet.size() * 8, 8)) {
             for (const std::size_t pool_room : rooms_around(c.pool.size(), 1)) {
                 reads_into(c, 0, room, pool_room);
@@ -84,19 +83,19 @@ void stores() {
     }
 }
 
-using View = tikomuci::Got<Bytes> (*)(Bytes, std::uint64_t);
+using View = tikomuci::Got<Bytes> (*)(tikomuci::Lent, std::uint64_t) noexcept;
 
 // The rows of one table by their places in the file, and numbers that no row has.
 void views(const std::string &what, View view, const Wire &file,
            const std::vector<std::array<std::size_t, 2>> &places) {
     for (std::size_t i = 0; i < places.size(); ++i) {
         const auto row = view(file, i);
-        expect(row && row.value.data() == file.data() + places[i][0] && row.value.size() == places[i][1],
+        expect(row && row->data() == file.data() + places[i][0] && row->size() == places[i][1],
                what + " " + std::to_string(i));
     }
     for (const std::uint64_t index : {std::uint64_t{places.size()}, std::uint64_t{places.size()} + 1,
                                       std::uint64_t{1} << 32, std::uint64_t{1} << 61, FAR}) {
-        expect(view(file, index).outcome == ABSENT, what + " " + std::to_string(index) + " is not there");
+        expect(view(file, index).outcome() == ABSENT, what + " " + std::to_string(index) + " is not there");
     }
 }
 
@@ -114,7 +113,7 @@ void row_views() {
 Outcome judged(const std::string &what, const Wire &file) {
     Wire sheet(1024, CANARY);
     Wire pool(1024, CANARY);
-    const Outcome outcome = tikomuci::measure(file).outcome;
+    const Outcome outcome = tikomuci::measure(file).outcome();
     const tikomuci_answer answers[] = {
         tikomuci_measure(file.data(), file.size()),
         tikomuci_read(file.data(), file.size(), sheet.data(), sheet.size(), pool.data(), pool.size()),
@@ -141,39 +140,39 @@ void damaged(const std::string &what, std::size_t place, std::uint8_t byte, Outc
 }
 
 void refusals() {
-    damaged("a wrong magic", 0, 0x7E, {TIKOMUCI_REFUSAL_MAGIC, TIKOMUCI_STAGE_HEADER});
-    damaged("wrong padding before a section", 15, 0, {TIKOMUCI_REFUSAL_PADDING, TIKOMUCI_STAGE_SECTIONS});
-    damaged("a section past the file", 105, 36, {TIKOMUCI_REFUSAL_SHORT, TIKOMUCI_STAGE_SECTIONS});
-    damaged("a string that starts after its end", 20, 2, {TIKOMUCI_REFUSAL_BOUNDS, TIKOMUCI_STAGE_STRING});
-    damaged("a string that ends outside", 24, 6, {TIKOMUCI_REFUSAL_BOUNDS, TIKOMUCI_STAGE_STRING});
-    damaged("a producer that is no string", 35, 2, {TIKOMUCI_REFUSAL_PRODUCER, TIKOMUCI_STAGE_PRODUCER});
-    damaged("a type tag that is not known", 50, 23, {TIKOMUCI_REFUSAL_TYPE_TAG, TIKOMUCI_STAGE_TYPE});
-    damaged("a type that ends inside a field", 52, 3, {TIKOMUCI_REFUSAL_SHORT, TIKOMUCI_STAGE_TYPE});
-    damaged("wrong padding among constants", 65, 0xCA, {TIKOMUCI_REFUSAL_PADDING, TIKOMUCI_STAGE_CONSTANT});
-    damaged("a constant far outside", 79, 0x80, {TIKOMUCI_REFUSAL_BOUNDS, TIKOMUCI_STAGE_CONSTANT});
-    damaged("a global too many", 85, 2, {TIKOMUCI_REFUSAL_SHORT, TIKOMUCI_STAGE_GLOBAL});
-    damaged("a function with hints", 97, 4, {TIKOMUCI_REFUSAL_HINTS, TIKOMUCI_STAGE_FUNC});
-    damaged("a body past its section", 99, 5, {TIKOMUCI_REFUSAL_SHORT, TIKOMUCI_STAGE_FUNC});
-    damaged("a debug tag that is not known", 138, 7, {TIKOMUCI_REFUSAL_DEBUG_TAG, TIKOMUCI_STAGE_DEBUG});
-    damaged("an empty debug attribute", 134, 3, {TIKOMUCI_REFUSAL_BOUNDS, TIKOMUCI_STAGE_DEBUG});
-    damaged("a list that starts behind the ids", 110, 2, {TIKOMUCI_REFUSAL_BOUNDS, TIKOMUCI_STAGE_DEBUG});
+    damaged("a wrong magic", 0, 0x7E, {Refusal::Magic, Stage::Header});
+    damaged("wrong padding before a section", 15, 0, {Refusal::Padding, Stage::Sections});
+    damaged("a section past the file", 105, 36, {Refusal::Short, Stage::Sections});
+    damaged("a string that starts after its end", 20, 2, {Refusal::Bounds, Stage::String});
+    damaged("a string that ends outside", 24, 6, {Refusal::Bounds, Stage::String});
+    damaged("a producer that is no string", 35, 2, {Refusal::Producer, Stage::Producer});
+    damaged("a type tag that is not known", 50, 23, {Refusal::TypeTag, Stage::Type});
+    damaged("a type that ends inside a field", 52, 3, {Refusal::Short, Stage::Type});
+    damaged("wrong padding among constants", 65, 0xCA, {Refusal::Padding, Stage::Constant});
+    damaged("a constant far outside", 79, 0x80, {Refusal::Bounds, Stage::Constant});
+    damaged("a global too many", 85, 2, {Refusal::Short, Stage::Global});
+    damaged("a function with hints", 97, 4, {Refusal::Hints, Stage::Func});
+    damaged("a body past its section", 99, 5, {Refusal::Short, Stage::Func});
+    damaged("a debug tag that is not known", 138, 7, {Refusal::DebugTag, Stage::Debug});
+    damaged("an empty debug attribute", 134, 3, {Refusal::Bounds, Stage::Debug});
+    damaged("a list that starts behind the ids", 110, 2, {Refusal::Bounds, Stage::Debug});
 
     Wire overlong = {0x7F, 'T', 'i', 'l', 'e', 'I', 'R', 0x00, 13, 4, 0, 0, 7, 10};
     const Wire number = nine(0xFF, 0x81);
     overlong.insert(overlong.end(), number.begin(), number.end());
     overlong.push_back(0);
-    expect(judged("a producer past ten bytes", overlong) == Outcome{TIKOMUCI_REFUSAL_OVERLONG, TIKOMUCI_STAGE_PRODUCER},
+    expect(judged("a producer past ten bytes", overlong) == Outcome{Refusal::Overlong, Stage::Producer},
            "a producer past ten bytes");
 
     Wire first = every_table();
     first[20] = 2;
     first[138] = 7;
-    expect(judged("two faults", first) == Outcome{TIKOMUCI_REFUSAL_BOUNDS, TIKOMUCI_STAGE_STRING},
+    expect(judged("two faults", first) == Outcome{Refusal::Bounds, Stage::String},
            "the first fault in reading order counts");
 
     // Globals stand before constants in this file and are read after them.
     const Wire order = {0x7F, 'T', 'i', 'l', 'e', 'I', 'R', 0x00, 13, 4, 0, 0, 6, 1, 1, 4, 0, 0};
-    expect(judged("no global and no constant", order) == Outcome{TIKOMUCI_REFUSAL_SHORT, TIKOMUCI_STAGE_CONSTANT},
+    expect(judged("no global and no constant", order) == Outcome{Refusal::Short, Stage::Constant},
            "the reading order is not that of the file");
 }
 
@@ -181,19 +180,19 @@ void cut_files() {
     const Wire file = every_table();
     for (std::size_t size = 0; size < file.size(); ++size) {
         const Wire cut(file.begin(), file.begin() + static_cast<std::ptrdiff_t>(size));
-        const std::uint64_t stage = size < 12 ? TIKOMUCI_STAGE_HEADER : TIKOMUCI_STAGE_SECTIONS;
+        const Stage stage = size < 12 ? Stage::Header : Stage::Sections;
         const std::string what = "every table, cut to " + std::to_string(size) + " bytes";
-        expect(judged(what, cut) == Outcome{TIKOMUCI_REFUSAL_SHORT, stage}, what);
+        expect(judged(what, cut) == Outcome{Refusal::Short, stage}, what);
     }
     Wire longer = file;
     longer.insert(longer.end(), {0xFF, 0xFF, 0xFF});
     const auto size = tikomuci::measure(longer);
-    expect(size && size.value == Size{49, 12}, "bytes behind the end marker are not read");
+    expect(size && *size == Size{49, 12}, "bytes behind the end marker are not read");
 }
 
 // An empty span may come as a null pointer.
 void null_spans() {
-    const Outcome no_header{TIKOMUCI_REFUSAL_SHORT, TIKOMUCI_STAGE_HEADER};
+    const Outcome no_header{Refusal::Short, Stage::Header};
     expect(outcome_of(tikomuci_measure(nullptr, 0)) == no_header, "no file measured");
     expect(outcome_of(tikomuci_read(nullptr, 0, nullptr, 0, nullptr, 0)) == no_header, "no file read");
     expect(outcome_of(tikomuci_string(nullptr, 0, 0)) == no_header, "a string of no file");
@@ -218,7 +217,7 @@ void null_spans() {
 }
 
 bool overlapping(Bytes file, Output sheet, Output pool) {
-    return tikomuci::read(file, sheet, pool).outcome == tikomuci::OVERLAPPING;
+    return tikomuci::read(file, sheet, pool).outcome() == tikomuci::OVERLAPPING;
 }
 
 void overlapping_stores() {

@@ -9,13 +9,14 @@
 #include <array>
 #include <csignal>
 #include <cstdlib>
-#include <limits>
+#include <initializer_list>
 #include <optional>
 #include <string>
 #include <vector>
 
-#include "check.hpp"
+#include "guarded.hpp"
 #include "tikomuci_tables.hpp"
+#include "walk.hpp"
 
 namespace {
 
@@ -23,74 +24,19 @@ using tikomuci::Bytes;
 using tikomuci::Outcome;
 using tikomuci::outcome_of;
 using tikomuci::Output;
+using tikomuci::Refusal;
+using tikomuci::Sheet;
 using tikomuci::Size;
-
-enum class Side { Begin, End };
-
-// Memory between two pages that nothing may touch; a span of it stands at its begin or at its end.
-class Guarded {
-  public:
-    explicit Guarded(std::size_t pages) : page_(static_cast<std::size_t>(sysconf(_SC_PAGESIZE))), size_(pages * page_) {
-        void *const memory = mmap(nullptr, size_ + 2 * page_, PROT_NONE, MAP_PRIVATE | MAP_ANONYMOUS, -1, 0);
-        if (memory == MAP_FAILED) {
-            std::perror("mmap");
-            std::exit(EXIT_FAILURE);
-        }
-        memory_ = static_cast<std::uint8_t *>(memory);
-        allow(PROT_READ | PROT_WRITE);
-    }
-    ~Guarded() { munmap(memory_, size_ + 2 * page_); }
-    Guarded(const Guarded &) = delete;
-    Guarded &operator=(const Guarded &) = delete;
-
-    [[nodiscard]] Output span(std::size_t size, Side side) const {
-        const Output inner(memory_ + page_, size_);
-        return side == Side::Begin ? inner.first(size) : inner.last(size);
-    }
-
-    // These bytes, which may be read and not be written until the next call.
-    Bytes lent(const Wire &bytes, Side side) {
-        allow(PROT_READ | PROT_WRITE);
-        const Output place = span(bytes.size(), side);
-        std::copy(bytes.begin(), bytes.end(), place.begin());
-        allow(PROT_READ);
-        return place;
-    }
-
-    // A store of this size, filled with the canary as the memory around it is.
-    Output store(std::size_t size, Side side) {
-        std::fill_n(memory_ + page_, size_, CANARY);
-        return span(size, side);
-    }
-
-    // Whether all memory holds the canary but for these bytes at the store's begin.
-    [[nodiscard]] bool holds(Output place, const Wire &bytes) const {
-        Wire wanted(size_, CANARY);
-        std::copy(bytes.begin(), bytes.end(), wanted.begin() + (place.data() - (memory_ + page_)));
-        return std::equal(wanted.begin(), wanted.end(), memory_ + page_);
-    }
-
-  private:
-    void allow(int what) {
-        if (mprotect(memory_ + page_, size_, what) != 0) {
-            std::perror("mprotect");
-            std::exit(EXIT_FAILURE);
-        }
-    }
-
-    std::size_t page_;
-    std::size_t size_;
-    std::uint8_t *memory_ = nullptr;
-};
+using tikomuci::Stage;
 
 constexpr int CAUGHT = 42;
 
-// Whether a child that does this touches memory that nothing may touch.
+// Whether a child that does this is stopped by a signal.
 template <typename Touch>
-bool ends(Touch touch) {
+bool ends(Touch touch, int by = SIGSEGV) {
     const pid_t child = fork();
     if (child == 0) {
-        std::signal(SIGSEGV, [](int) { _exit(CAUGHT); });
+        std::signal(by, [](int) { _exit(CAUGHT); });
         touch();
         _exit(EXIT_SUCCESS);
     }
@@ -118,60 +64,90 @@ void guards_hold() {
     expect(ends([&] { static_cast<void>(tikomuci_measure(endless.data(), 32)); }), "a file shorter than was said");
 }
 
+// A refusal that is walked past is an assertion that fails. What it says is not for these tests.
+void refusals_assert() {
+    const Wire file = whole_case();
+    const auto size = tikomuci::measure(file);
+    const auto view = tikomuci::constant(file, 0);
+    const auto quietly = [](auto look) {
+        return [look] {
+            std::freopen("/dev/null", "w", stderr);
+            look();
+        };
+    };
+    expect(!ends(quietly([&] { static_cast<void>(size->words); }), SIGABRT), "the value of an acceptance");
+    expect(ends(quietly([&] { static_cast<void>(view->size()); }), SIGABRT), "a refusal by ->");
+    expect(ends(quietly([&] { static_cast<void>(*view); }), SIGABRT), "a refusal by *");
+    expect(ends(quietly([] { static_cast<void>(tikomuci::Got<Bytes>(Outcome{})); }), SIGABRT),
+           "no refusal and no value");
+    expect(view.value_or(Bytes(file)).size() == file.size(), "another value in the place of a refusal");
+}
+
 struct Memories {
     Guarded file{1};
     Guarded sheet{1};
     Guarded pool{1};
 };
 
-constexpr std::array<Side, 2> SIDES = {Side::Begin, Side::End};
 constexpr std::array<std::uint8_t, 6> BYTES = {0x00, 0x01, 0x02, 0x7F, 0x80, 0xFF};
-constexpr std::array<std::uint64_t, 6> WORDS = {
-    0, 1, 2, 0x80, std::uint64_t{1} << 61, std::numeric_limits<std::uint64_t>::max(),
-};
+constexpr std::array<std::uint64_t, 6> WORDS = {0, 1, 2, 0x80, std::uint64_t{1} << 61, FAR};
 
 // The view of a row has the bytes that the row has in the pool, inside the file.
 void same_row(const std::string &what, Bytes file, const tikomuci::Got<Bytes> &view, std::optional<Bytes> row) {
     if (!row) {
-        expect(view.outcome == ABSENT, what + " is not there");
+        expect(view.outcome() == ABSENT, what + " is not there");
         return;
     }
-    expect(view && view.value.size() == row->size() && std::equal(row->begin(), row->end(), view.value.begin()), what);
-    expect(view.value.data() >= file.data() && view.value.data() + view.value.size() <= file.data() + file.size(),
+    const Bytes seen = view.value_or(Bytes{});
+    expect(view && std::equal(row->begin(), row->end(), seen.begin(), seen.end()), what);
+    expect(view && seen.data() >= file.data() && seen.data() + seen.size() <= file.data() + file.size(),
            what + " lies in the file");
+}
+
+// The view of a section lies in the file, and is not there for an id that no section has.
+void sections(const std::string &what, Bytes file, Outcome outcome) {
+    const bool walked = outcome || outcome.stage > Stage::Sections;
+    for (const std::uint64_t id : std::initializer_list<std::uint64_t>{0, 1, 2, 3, 4, 5, 6, 7, 8, 255}) {
+        const auto view = tikomuci::section(file, id);
+        const Bytes seen = view.value_or(Bytes{});
+        const bool inside = seen.data() >= file.data() && seen.data() + seen.size() <= file.data() + file.size();
+        expect(view ? walked && inside : view.outcome() == (walked ? ABSENT : outcome),
+               "section " + std::to_string(id) + " of " + what);
+    }
 }
 
 // A file at a guard through measure and the views, which a refused file refuses alike.
 Outcome judged(const std::string &what, Bytes file) {
     const auto tables = tikomuci::read(file);
-    const tikomuci::Sheet &sheet = tables.value.sheet;
-    expect(tikomuci::measure(file).outcome == tables.outcome, what + ": measured as read");
-    for (const std::uint64_t index : {std::uint64_t{0}, std::uint64_t{1}, std::numeric_limits<std::uint64_t>::max()}) {
+    expect(tikomuci::measure(file).outcome() == tables.outcome(), what + ": measured as read");
+    for (const std::uint64_t index : {std::uint64_t{0}, std::uint64_t{1}, FAR}) {
         const auto string = tikomuci::string(file, index);
         const auto constant = tikomuci::constant(file, index);
         const auto body = tikomuci::body(file, index);
         const std::string row = " " + std::to_string(index) + " of " + what;
         if (tables) {
+            const Sheet &sheet = tables->sheet();
             const auto function = sheet.function(index);
             same_row("string" + row, file, string, sheet.string(index));
             same_row("constant" + row, file, constant, sheet.constant(index));
             same_row("body" + row, file, body, function ? std::optional(function->body) : std::nullopt);
         } else {
-            expect(string.outcome == tables.outcome && constant.outcome == tables.outcome &&
-                       body.outcome == tables.outcome,
+            expect(string.outcome() == tables.outcome() && constant.outcome() == tables.outcome() &&
+                       body.outcome() == tables.outcome(),
                    "row" + row + ": the refusal");
         }
     }
-    return tables.outcome;
+    sections(what, file, tables.outcome());
+    return tables.outcome();
 }
 
 // Stores of just the size at a guard, and stores that are one word or one byte too small.
 void read_between(Memories &memories, const std::string &what, Bytes file, Side side) {
     const auto size = tikomuci::measure(file);
-    Wire sheet(size.value.words * 8);
-    Wire pool(size.value.bytes);
-    const Outcome wanted = tikomuci::read(file, sheet, pool).outcome;
-    expect(wanted == size.outcome, what + ": read as measured");
+    Wire sheet(size.value_or(Size{}).words * 8);
+    Wire pool(size.value_or(Size{}).bytes);
+    const Outcome wanted = tikomuci::read(file, sheet, pool).outcome();
+    expect(wanted == size.outcome(), what + ": read as measured");
     for (const std::size_t less : {std::size_t{0}, std::size_t{1}}) {
         for (const std::size_t pool_less : {std::size_t{0}, std::size_t{1}}) {
             const std::size_t room = sheet.size() - std::min(sheet.size(), 8 * less);
@@ -180,7 +156,7 @@ void read_between(Memories &memories, const std::string &what, Bytes file, Side 
             const Output sheet_place = memories.sheet.store(room, side);
             const Output pool_place = memories.pool.store(pool_room, side);
             const auto got = tikomuci::read(file, sheet_place, pool_place);
-            expect(got.outcome == (fits || !wanted ? wanted : FULL), what + ": the outcome");
+            expect(got.outcome() == (fits || !wanted ? wanted : FULL), what + ": the outcome");
             const bool filled = fits && wanted;
             expect(memories.sheet.holds(sheet_place, filled ? sheet : Wire{}), what + ": the sheet");
             expect(memories.pool.holds(pool_place, filled ? pool : Wire{}), what + ": the pool");
@@ -208,7 +184,7 @@ void damaged_files() {
         const Wire cut(whole.begin(), whole.begin() + static_cast<std::ptrdiff_t>(size));
         const std::string what = "cut to " + std::to_string(size) + " bytes at a guard";
         const Bytes lent = memories.file.lent(cut, Side::End);
-        expect(judged(what, lent).refusal == TIKOMUCI_REFUSAL_SHORT, what);
+        expect(judged(what, lent).refusal == Refusal::Short, what);
         read_between(memories, what, lent, Side::End);
     }
     std::size_t accepted = 0;
@@ -235,15 +211,15 @@ Outcome written_between(Memories &memories, const std::string &what, const Wire 
     const Bytes sheet = memories.sheet.lent(words, side);
     const Bytes pool = memories.pool.lent(bytes, side);
     const auto size = tikomuci::image(sheet);
-    Wire image(size.value);
-    const Outcome wanted = tikomuci::write(sheet, pool, image).outcome;
-    expect(wanted == size.outcome, what + ": written as measured");
+    Wire image(size.value_or(0));
+    const Outcome wanted = tikomuci::write(sheet, pool, image).outcome();
+    expect(wanted == size.outcome(), what + ": written as measured");
     for (const std::size_t less : {std::size_t{0}, std::size_t{1}}) {
         const std::size_t room = image.size() - std::min(image.size(), less);
         const bool fits = room == image.size();
         const Output place = memories.file.store(room, side);
         const auto got = tikomuci::write(sheet, pool, place);
-        expect(got.outcome == (fits || !wanted ? wanted : FULL), what + ": the outcome");
+        expect(got.outcome() == (fits || !wanted ? wanted : FULL), what + ": the outcome");
         expect(memories.file.holds(place, fits && wanted ? image : Wire{}), what + ": the image");
     }
     Wire sheet_again(words.size());
@@ -266,7 +242,7 @@ void handed_sheets() {
         for (std::size_t size = 0; size < words.size(); ++size) {
             const Wire cut(words.begin(), words.begin() + static_cast<std::ptrdiff_t>(size));
             const std::string what = "a sheet cut to " + std::to_string(size) + " bytes at a guard";
-            expect(written_between(memories, what, cut, pool, side).refusal == TIKOMUCI_REFUSAL_SHEET, what);
+            expect(written_between(memories, what, cut, pool, side).refusal == Refusal::Sheet, what);
         }
     }
     std::size_t accepted = 0;
@@ -286,6 +262,49 @@ void handed_sheets() {
     expect(accepted > 150 && refused > 300, "changed sheets of both kinds");
 }
 
+// Sheets whose words somebody changes one by one: each way to each row stays inside. How often rows became others.
+std::size_t changed_words(Output store, const Sheet &sheet, const Sheet &indexed) {
+    std::size_t others = 0;
+    const walk::Sums rows = walk::by_range(sheet);
+    for (std::size_t place = 0; place < store.size(); place += 8) {
+        const Output changing = store.subspan(place, 8);
+        const Wire kept(changing.begin(), changing.end());
+        for (const std::uint64_t word : WORDS) {
+            expect(static_cast<bool>(tikomuci::patch_u64(changing, 0, word)), "a word is changed");
+            const walk::Sums changed = walk::by_range(sheet);
+            expect(changed.size() == rows.size() && walk::by_number(sheet).size() == rows.size() &&
+                       walk::by_number(indexed).size() == rows.size(),
+                   "as many rows as there were");
+            others += changed == rows ? 0 : 1;
+        }
+        std::copy(kept.begin(), kept.end(), changing.begin());
+    }
+    return others;
+}
+
+// Sheets over stores at guards, one of them with an index: as they were read, with changed words, and with an index
+// that leads elsewhere.
+void sheets_over_stores() {
+    for (const Side side : SIDES) {
+        Memories memories;
+        Guarded index_memory(1);
+        const Output store = memories.sheet.store(every_table_sheet().size() * 8, side);
+        const Output pool = memories.pool.store(every_table_pool().size(), side);
+        const auto sheet = tikomuci::read_sheet(every_table(), store, pool);
+        auto indexed = Sheet::open(store, pool);
+        const Output room = index_memory.store(7 * sizeof(std::uint32_t), side);
+        const std::span<std::uint32_t> index(reinterpret_cast<std::uint32_t *>(room.data()), 7);
+        expect(sheet && indexed && indexed->index(index), "sheets over stores at guards");
+        const walk::Sums rows = walk::by_range(*sheet);
+        expect(walk::by_number(*sheet) == rows && walk::by_number(*indexed) == rows, "the rows of stores at guards");
+        expect(changed_words(store, *sheet, *indexed) > 100, "changed words change rows");
+        for (const std::uint32_t key : {0U, 1U, 11U, 12U, 48U, 49U, 0xFFFFFFFFU}) {
+            std::fill(index.begin(), index.end(), key);
+            expect(walk::by_number(*indexed).size() == rows.size(), "an index that leads elsewhere");
+        }
+    }
+}
+
 // The limits are judged by the length alone: of a longer file, sheet or pool no byte is touched.
 void limits() {
     const std::size_t most = std::size_t{1} << 30;
@@ -295,22 +314,22 @@ void limits() {
         return;
     }
     const Bytes file(static_cast<const std::uint8_t *>(memory), most + 1);
-    const Outcome limit{TIKOMUCI_REFUSAL_LIMIT, TIKOMUCI_STAGE_LIMITS};
-    expect(tikomuci::measure(file).outcome == limit, "a file over the limit is not measured");
-    expect(tikomuci::read(file, {}, {}).outcome == limit, "a file over the limit is not read");
-    expect(tikomuci::string(file, 0).outcome == limit, "no string of a file over the limit");
-    expect(tikomuci::constant(file, 0).outcome == limit, "no constant of a file over the limit");
-    expect(tikomuci::body(file, 0).outcome == limit, "no body of a file over the limit");
+    const Outcome limit{Refusal::Limit, Stage::Limits};
+    expect(tikomuci::measure(file).outcome() == limit, "a file over the limit is not measured");
+    expect(tikomuci::read(file, {}, {}).outcome() == limit, "a file over the limit is not read");
+    expect(tikomuci::string(file, 0).outcome() == limit, "no string of a file over the limit");
+    expect(tikomuci::constant(file, 0).outcome() == limit, "no constant of a file over the limit");
+    expect(tikomuci::body(file, 0).outcome() == limit, "no body of a file over the limit");
     const std::size_t most_words = std::size_t{1} << 26;
-    const Outcome handed{TIKOMUCI_REFUSAL_LIMIT, TIKOMUCI_STAGE_CALL};
-    expect(tikomuci::image(file.first(8 * (most_words + 1))).outcome == handed, "a sheet over the limit, measured");
-    expect(tikomuci::write(file.first(8 * (most_words + 1)), {}, {}).outcome == handed, "a sheet over the limit");
-    expect(tikomuci::write({}, file, {}).outcome == handed, "a pool over the limit comes before its sheet");
+    const Outcome handed{Refusal::Limit, Stage::Call};
+    expect(tikomuci::image(file.first(8 * (most_words + 1))).outcome() == handed, "a sheet over the limit, measured");
+    expect(tikomuci::write(file.first(8 * (most_words + 1)), {}, {}).outcome() == handed, "a sheet over the limit");
+    expect(tikomuci::write({}, file, {}).outcome() == handed, "a pool over the limit comes before its sheet");
     expect(mprotect(memory, most + 1, PROT_READ) == 0, "a file of zeros");
-    expect(tikomuci::measure(file.first(most)).outcome == Outcome{TIKOMUCI_REFUSAL_MAGIC, TIKOMUCI_STAGE_HEADER},
+    expect(tikomuci::measure(file.first(most)).outcome() == Outcome{Refusal::Magic, Stage::Header},
            "a file at the limit is read");
-    expect(tikomuci::image(file.first(8 * most_words)).outcome == SHEET, "a sheet at the limit is judged");
-    expect(tikomuci::write({}, file.first(most), {}).outcome == SHEET, "a pool at the limit is taken");
+    expect(tikomuci::image(file.first(8 * most_words)).outcome() == SHEET, "a sheet at the limit is judged");
+    expect(tikomuci::write({}, file.first(most), {}).outcome() == SHEET, "a pool at the limit is taken");
     munmap(memory, most + 1);
 }
 
@@ -318,8 +337,10 @@ void limits() {
 
 void guard_tests() {
     guards_hold();
+    refusals_assert();
     whole_files();
     damaged_files();
     handed_sheets();
+    sheets_over_stores();
     limits();
 }

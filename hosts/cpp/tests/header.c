@@ -1,64 +1,58 @@
-/* The header as C99 sees it, and each of its names as the archive has it: a name that is missing does not link. */
+/* The header as C99 sees it: what it says of itself, and answers as they come by value. */
+
+#include <stdio.h>
+#include <string.h>
 
 #include "tikomuci.h"
 
-typedef void (*any_call)(void);
+const char *header_fault(void);
 
-static const any_call calls[] = {
-    (any_call)tikomuci_write_byte,
-    (any_call)tikomuci_write_bytes,
-    (any_call)tikomuci_write_varint,
-    (any_call)tikomuci_write_signed_varint,
-    (any_call)tikomuci_write_le_u8,
-    (any_call)tikomuci_write_le_u16,
-    (any_call)tikomuci_write_le_u32,
-    (any_call)tikomuci_write_le_u64,
-    (any_call)tikomuci_write_le_i32,
-    (any_call)tikomuci_write_le_i64,
-    (any_call)tikomuci_write_le_f32,
-    (any_call)tikomuci_write_le_f64,
-    (any_call)tikomuci_write_ap_float_f64,
-    (any_call)tikomuci_write_ap_float_f8e4m3fn,
-    (any_call)tikomuci_write_ap_float_f8e5m2,
-    (any_call)tikomuci_write_le_var_size_i32,
-    (any_call)tikomuci_write_le_var_size_i64,
-    (any_call)tikomuci_align_to,
-    (any_call)tikomuci_patch_u32,
-    (any_call)tikomuci_patch_u64,
-    (any_call)tikomuci_read_byte,
-    (any_call)tikomuci_read_bytes,
-    (any_call)tikomuci_read_varint,
-    (any_call)tikomuci_read_signed_varint,
-    (any_call)tikomuci_read_le_u8,
-    (any_call)tikomuci_read_le_u16,
-    (any_call)tikomuci_read_le_u32,
-    (any_call)tikomuci_read_le_u64,
-    (any_call)tikomuci_read_le_i32,
-    (any_call)tikomuci_read_le_i64,
-    (any_call)tikomuci_skip_padding,
-    (any_call)tikomuci_read_le_var_size_i32,
-    (any_call)tikomuci_read_le_var_size_i64,
-    (any_call)tikomuci_remaining,
-    (any_call)tikomuci_f8e4m3fn,
-    (any_call)tikomuci_f8e5m2,
-    (any_call)tikomuci_measure,
-    (any_call)tikomuci_read,
-    (any_call)tikomuci_string,
-    (any_call)tikomuci_constant,
-    (any_call)tikomuci_body,
-    (any_call)tikomuci_section,
-    (any_call)tikomuci_image,
-    (any_call)tikomuci_write,
-};
+static int is(const char *text, const char *wanted) { return strcmp(text, wanted) == 0; }
 
-int header_calls(void);
+static int version_is_that_of_the_text(void) {
+    char text[32];
+    sprintf(text, "%d.%d.%d", TIKOMUCI_VERSION_MAJOR, TIKOMUCI_VERSION_MINOR, TIKOMUCI_VERSION_PATCH);
+    return is(text, TIKOMUCI_VERSION);
+}
 
-/* How many calls the header has. */
-int header_calls(void) {
-    int count = 0;
-    size_t i;
-    for (i = 0; i < sizeof calls / sizeof calls[0]; i++) {
-        count += calls[i] != NULL;
+static int names_are_there(void) {
+    return is(tikomuci_refusal_name(0), "accepted") && is(tikomuci_refusal_name(TIKOMUCI_REFUSAL_ABSENT), "absent") &&
+           is(tikomuci_refusal_name(TIKOMUCI_REFUSAL_OVERLAP), "overlap") &&
+           is(tikomuci_refusal_name(UINT64_MAX), "unknown") &&
+           is(tikomuci_refusal_text(TIKOMUCI_REFUSAL_ABSENT), "what was asked for is not there") &&
+           is(tikomuci_refusal_text(15), "no call answers this number") &&
+           is(tikomuci_stage_name(TIKOMUCI_STAGE_CALL), "call") && is(tikomuci_stage_name(11), "unknown") &&
+           is(tikomuci_stage_text(TIKOMUCI_STAGE_DEBUG), "in the Debug section");
+}
+
+static int limits_are_powers_of_two(void) {
+    return TIKOMUCI_MAX_FILE_BYTES == (uint64_t)1 << 30 && TIKOMUCI_MAX_POOL_BYTES == (uint64_t)1 << 30 &&
+           TIKOMUCI_MAX_SHEET_WORDS == (uint64_t)1 << 26;
+}
+
+static int has(tikomuci_answer answer, uint64_t refusal, uint64_t stage, uint64_t first, uint64_t second) {
+    return answer.refusal == refusal && answer.stage == stage && answer.first == first && answer.second == second;
+}
+
+static int answers_come_by_value(void) {
+    uint8_t out[3] = {0, 0, 0};
+    return has(tikomuci_write_varint(out, sizeof out, 1, 300), 0, 0, 3, 0) && out[1] == 0xAC && out[2] == 0x02 &&
+           has(tikomuci_read_varint(out, sizeof out, 1), 0, 0, 300, 3) &&
+           has(tikomuci_write_varint(out, sizeof out, 2, 300), TIKOMUCI_REFUSAL_FULL, TIKOMUCI_STAGE_CALL, 0, 0) &&
+           has(tikomuci_measure(out, sizeof out), TIKOMUCI_REFUSAL_SHORT, TIKOMUCI_STAGE_HEADER, 0, 0) &&
+           tikomuci_remaining(out, sizeof out, 1) == 2 && tikomuci_f8e5m2(0) == 0;
+}
+
+/* What does not hold, or null. */
+const char *header_fault(void) {
+    if (!version_is_that_of_the_text()) {
+        return "the version in numbers is that of the text";
     }
-    return count;
+    if (!names_are_there()) {
+        return "the names of refusals and stages";
+    }
+    if (!limits_are_powers_of_two()) {
+        return "the limits";
+    }
+    return answers_come_by_value() ? NULL : "answers by value";
 }

@@ -1,4 +1,5 @@
-// Tests of the library from C++: worked examples by name, each call at the edge of its room, and the host's own header.
+// Tests of the library from C++: worked examples by name, and each call over numbers at the edge of its room, between
+// pages that nothing may touch.
 
 #include <algorithm>
 #include <array>
@@ -10,13 +11,18 @@
 #include <string>
 #include <vector>
 
-#include "check.hpp"
+#include "guarded.hpp"
 
-extern "C" int header_calls(void);
+extern "C" const char *header_fault(void);
 void file_tests();
 void table_tests();
 void write_tests();
+void builder_tests();
 void guard_tests();
+void format_tests();
+void memory_tests();
+void cxx17_tests();
+void released_tests();
 
 namespace {
 
@@ -25,62 +31,103 @@ using tikomuci::Outcome;
 using tikomuci::outcome_of;
 using tikomuci::Output;
 using tikomuci::Reader;
+using tikomuci::Refusal;
+using tikomuci::Section;
+using tikomuci::Stage;
 using tikomuci::Writer;
 
-constexpr Outcome SHORT{TIKOMUCI_REFUSAL_SHORT, TIKOMUCI_STAGE_CALL};
-constexpr Outcome OVERLONG{TIKOMUCI_REFUSAL_OVERLONG, TIKOMUCI_STAGE_CALL};
-constexpr Outcome PADDING{TIKOMUCI_REFUSAL_PADDING, TIKOMUCI_STAGE_CALL};
+constexpr Outcome SHORT{Refusal::Short, Stage::Call};
+constexpr Outcome OVERLONG{Refusal::Overlong, Stage::Call};
+constexpr Outcome PADDING{Refusal::Padding, Stage::Call};
+
+// What is written to, what is read, and what a writer is lent, each at a page that nothing may touch.
+struct Memories {
+    Guarded out{1};
+    Guarded data{1};
+    Guarded lent{1};
+};
+
+Memories &memories() {
+    static Memories all;
+    return all;
+}
 
 // Writes with `write` into each room from 0 to one more than the spelling needs, and into a place past the output: all
 // that is too small is refused and untouched, the rest holds the spelling and nothing else changed.
 template <typename Write>
-void writes(const std::string &what, const Wire &spelling, Write write) {
+void writes_at(Side side, const std::string &what, const Wire &spelling, Write write) {
+    Guarded &memory = memories().out;
     const std::size_t before = 2;
     for (std::size_t room = 0; room <= spelling.size() + 1; ++room) {
-        Wire memory(before + room + 3, CANARY);
-        Wire wanted = memory;
-        Writer writer(Output(memory).first(before + room), before);
+        const Output out = memory.store(before + room, side);
+        Writer writer(out, before);
         const Outcome outcome = write(writer);
         const bool fits = spelling.size() <= room;
+        Wire wanted(before, CANARY);
         if (fits) {
-            std::copy(spelling.begin(), spelling.end(), wanted.begin() + before);
+            wanted.insert(wanted.end(), spelling.begin(), spelling.end());
         }
         const std::string where = what + " in a room of " + std::to_string(room);
         expect(outcome == (fits ? Outcome{} : FULL), where + ": the outcome");
-        expect(memory == wanted, where + ": the bytes");
+        expect(memory.holds(out, wanted), where + ": the bytes");
         expect(writer.tell() == (fits ? before + spelling.size() : before), where + ": the next place");
     }
-    Wire memory(spelling.size() + 4, CANARY);
-    Writer past(Output(memory).first(1), 2);
-    expect(write(past) == FULL && memory == Wire(memory.size(), CANARY), what + " past the output");
+    const Output out = memory.store(1, side);
+    Writer past(out, 2);
+    expect(write(past) == FULL && memory.holds(out, {}), what + " past the output");
 }
 
-// Reads `wire` and each part of it that ends sooner, each beside bytes that would complete it.
+template <typename Write>
+void writes(const std::string &what, const Wire &spelling, Write write) {
+    for (const Side side : SIDES) {
+        writes_at(side, what, spelling, write);
+    }
+}
+
+template <typename Value>
+bool matches(const Value &got, const Value &wanted) {
+    return got == wanted;
+}
+
+bool matches(Bytes got, const Wire &wanted) { return std::equal(got.begin(), got.end(), wanted.begin(), wanted.end()); }
+
+// Reads at place `at` of `wire`, and of each part of it that ends sooner: at a guard, and beside bytes that would
+// complete it.
 template <typename Value, typename Read>
-void reads(const std::string &what, const Wire &wire, Value value, Read read) {
-    for (std::size_t size = 0; size <= wire.size(); ++size) {
-        Reader reader(Bytes(wire).first(size));
+void reads_at(Side side, const std::string &what, const Wire &wire, std::size_t at, const Value &value, Read read) {
+    Guarded &memory = memories().data;
+    for (std::size_t size = at; size <= wire.size(); ++size) {
+        const Wire cut(wire.begin(), wire.begin() + static_cast<std::ptrdiff_t>(size));
+        Reader reader(side == Side::Begin ? memory.lent(wire, side).first(size) : memory.lent(cut, side), at);
         const auto got = read(reader);
         const std::string where = what + " in " + std::to_string(size) + " bytes";
         if (size == wire.size()) {
-            expect(got && got.value == value, where + ": the value");
+            expect(got && matches(*got, value), where + ": the value");
             expect(reader.tell() == size && reader.remaining() == 0, where + ": the next place");
         } else {
-            expect(got.outcome == SHORT, where + ": the outcome");
-            expect(reader.tell() == 0 && reader.remaining() == size, where + ": the place stays");
+            expect(got.outcome() == SHORT, where + ": the outcome");
+            expect(reader.tell() == at && reader.remaining() == size - at, where + ": the place stays");
         }
     }
-    Reader past(wire, wire.size() + 1);
-    expect(read(past).outcome == SHORT && past.remaining() == 0, what + " past the data");
+    Reader past(memory.lent(wire, side), wire.size() + 1);
+    expect(read(past).outcome() == SHORT && past.remaining() == 0, what + " past the data");
+}
+
+template <typename Value, typename Read>
+void reads(const std::string &what, const Wire &wire, const Value &value, Read read, std::size_t at = 0) {
+    for (const Side side : SIDES) {
+        reads_at(side, what, wire, at, value, read);
+    }
 }
 
 void marked_table() {
     writes("(a) varint 300", {0xAC, 0x02}, [](Writer &w) { return w.varint(300); });
     reads("(b) 80 00", {0x80, 0x00}, std::uint64_t{0}, [](Reader &r) { return r.varint(); });
     const auto varint = [](Reader &r) { return r.varint(); };
-    reads("(c) nine FF then 01", nine(0xFF, 0x01), std::numeric_limits<std::uint64_t>::max(), varint);
+    reads("(c) nine FF then 01", nine(0xFF, 0x01), FAR, varint);
     reads("(d) nine 80 then 7F", nine(0x80, 0x7F), std::uint64_t{1} << 63, varint);
-    expect(Reader(nine(0xFF, 0x81)).varint().outcome == OVERLONG, "(e) nine FF then 81");
+    const Wire endless = nine(0xFF, 0x81);
+    expect(Reader(endless).varint().outcome() == OVERLONG, "(e) nine FF then 81");
     writes("(f) signed varint -1", {0x01}, [](Writer &w) { return w.signed_varint(-1); });
     const double infinity = std::numeric_limits<double>::infinity();
     expect(tikomuci::f8e4m3fn(0x3p-10) == 0x02, "(g) E4M3FN of 3 * 2^-10");
@@ -116,8 +163,7 @@ void fixed_widths() {
 void varints() {
     writes("varint 0", {0x00}, [](Writer &w) { return w.varint(0); });
     writes("varint 127", {0x7F}, [](Writer &w) { return w.varint(127); });
-    writes("varint 2^64 - 1", nine(0xFF, 0x01),
-           [](Writer &w) { return w.varint(std::numeric_limits<std::uint64_t>::max()); });
+    writes("varint 2^64 - 1", nine(0xFF, 0x01), [](Writer &w) { return w.varint(FAR); });
     writes("signed varint 1", {0x02}, [](Writer &w) { return w.signed_varint(1); });
     writes("signed varint -2^63", nine(0xFF, 0x01),
            [](Writer &w) { return w.signed_varint(std::numeric_limits<std::int64_t>::min()); });
@@ -129,36 +175,64 @@ void varints() {
     writes("E5M2 attribute NaN", {0x7D}, [](Writer &w) { return w.ap_float_f8e5m2(std::nan("")); });
 }
 
-void runs_and_arrays() {
+// Numbers as they stand in a writer's lent memory.
+template <typename Int>
+std::span<const Int> lent_numbers(const std::vector<Int> &numbers, Side side) {
+    const auto *const bytes = reinterpret_cast<const std::uint8_t *>(numbers.data());
+    const Bytes lent = memories().lent.lent(Wire(bytes, bytes + numbers.size() * sizeof(Int)), side);
+    return {reinterpret_cast<const Int *>(lent.data()), numbers.size()};
+}
+
+void written_runs_and_arrays() {
+    for (const Side side : SIDES) {
+        const Bytes data = memories().lent.lent({1, 2, 3}, side);
+        writes("three bytes", {1, 2, 3}, [&](Writer &w) { return w.bytes(data); });
+        writes("no bytes", {}, [&](Writer &w) { return w.bytes(data.first(0)); });
+        const auto narrow = lent_numbers<std::int32_t>({-1, 2}, side);
+        writes("i32 array", {2, 0xFF, 0xFF, 0xFF, 0xFF, 2, 0, 0, 0}, [&](Writer &w) { return w.le_var_size(narrow); });
+        writes("empty array", {0}, [&](Writer &w) { return w.le_var_size(narrow.first(0)); });
+        const auto wide = lent_numbers<std::int64_t>({-2}, side);
+        writes("i64 array", {1, 0xFE, 0xFF, 0xFF, 0xFF, 0xFF, 0xFF, 0xFF, 0xFF},
+               [&](Writer &w) { return w.le_var_size(wide); });
+    }
+}
+
+void read_runs_and_arrays() {
+    const auto two = [](Reader &r) { return r.bytes(2); };
+    reads("two bytes", {1, 2, 3}, Wire{2, 3}, two, 1);
+    reads("i32 array", {2, 0xFF, 0xFF, 0xFF, 0xFF, 2, 0, 0, 0}, Wire{0xFF, 0xFF, 0xFF, 0xFF, 2, 0, 0, 0},
+          [](Reader &r) { return r.le_var_size_i32(); });
+    reads("i64 array", {1, 0xFE, 0xFF, 0xFF, 0xFF, 0xFF, 0xFF, 0xFF, 0xFF},
+          Wire{0xFE, 0xFF, 0xFF, 0xFF, 0xFF, 0xFF, 0xFF, 0xFF}, [](Reader &r) { return r.le_var_size_i64(); });
+    const Wire far = nine(0xFF, 0x01);
+    expect(Reader(far).le_var_size_i64().outcome() == SHORT, "array whose size would wrap");
+    const Wire endless = nine(0xFF, 0x81);
+    expect(Reader(endless).le_var_size_i32().outcome() == OVERLONG, "array whose count is no varint");
     const Wire data = {1, 2, 3};
-    writes("three bytes", data, [&](Writer &w) { return w.bytes(data); });
-    writes("no bytes", {}, [](Writer &w) { return w.bytes({}); });
-    const std::array<std::int32_t, 2> narrow = {-1, 2};
-    const std::array<std::int64_t, 1> wide = {-2};
-    const Wire narrow_wire = {2, 0xFF, 0xFF, 0xFF, 0xFF, 2, 0, 0, 0};
-    const Wire wide_wire = {1, 0xFE, 0xFF, 0xFF, 0xFF, 0xFF, 0xFF, 0xFF, 0xFF};
-    writes("i32 array", narrow_wire, [&](Writer &w) { return w.le_var_size(narrow); });
-    writes("i64 array", wide_wire, [&](Writer &w) { return w.le_var_size(wide); });
-    writes("empty array", {0}, [](Writer &w) { return w.le_var_size(std::span<const std::int32_t>{}); });
-
-    Reader narrow_reader(narrow_wire);
-    const auto got_narrow = narrow_reader.le_var_size_i32();
-    expect(got_narrow && got_narrow.value.size() == 8 && got_narrow.value.data() == narrow_wire.data() + 1 &&
-               narrow_reader.tell() == 9,
-           "i32 array read");
-    const auto got_wide = Reader(wide_wire).le_var_size_i64();
-    expect(got_wide && got_wide.value.size() == 8 && got_wide.value.data() == wide_wire.data() + 1, "i64 array read");
-    expect(Reader(narrow_wire).le_var_size_i64().outcome == SHORT, "i64 array cut short");
-    expect(Reader(nine(0xFF, 0x01)).le_var_size_i64().outcome == SHORT, "array whose size would wrap");
-    expect(Reader(nine(0xFF, 0x81)).le_var_size_i32().outcome == OVERLONG, "array whose count is no varint");
-
     const auto run = Reader(data, 1).bytes(2);
-    expect(run && run.value.data() == data.data() + 1 && run.value.size() == 2, "two bytes read");
-    expect(Reader(data, 1).bytes(3).outcome == SHORT, "three bytes where two are left");
-    expect(Reader(data, 1).bytes(std::numeric_limits<std::uint64_t>::max()).outcome == SHORT,
-           "a run whose end would wrap");
+    expect(run && run->data() == data.data() + 1 && run->size() == 2, "a run is a part of the data");
+    const auto numbers = Reader(data, 0).le_var_size_i32();
+    expect(numbers.outcome() == SHORT, "an array cut short");
+    expect(Reader(data, 1).bytes(FAR).outcome() == SHORT, "a run whose end would wrap");
     const auto none = Reader(data, 3).bytes(0);
-    expect(none && none.value.empty(), "no bytes at the end");
+    expect(none && none->empty(), "no bytes at the end");
+}
+
+// Bytes may be std::byte everywhere, and any container that has them side by side.
+void other_bytes() {
+    std::array<std::byte, 4> memory{};
+    Writer writer(memory);
+    const std::vector<std::byte> data = {std::byte{0xAC}, std::byte{0x02}};
+    expect(writer.bytes(data) && memory[0] == std::byte{0xAC} && memory[1] == std::byte{0x02}, "std::byte written");
+    const auto read = Reader(memory).varint();
+    expect(read && *read == 300, "std::byte read");
+    const std::span<const std::byte> span(memory);
+    expect(tikomuci::patch_u32(memory, 0, 0x7F) && span[0] == std::byte{0x7F}, "std::byte patched");
+    std::uint8_t raw[2] = {0x7F, 0};
+    const auto first = Reader(raw).byte();
+    expect(first && *first == 0x7F, "an array of C");
+    const auto second = Reader({raw, 1}, 1).byte();
+    expect(second.outcome() == SHORT, "a pointer and a size");
 }
 
 void padding() {
@@ -173,55 +247,57 @@ void padding() {
     expect(writer.byte(0) && writer.align_to(64) == FULL && writer.required_alignment() == 4,
            "a refused alignment is not kept");
 
-    Wire wire = {0, 0xCB, 0xCB, 0xCB, 9};
-    Reader reader(wire, 1);
-    const auto passed_over = reader.skip_padding(4);
-    expect(passed_over && passed_over.value == 3 && reader.tell() == 4, "three padding bytes");
-    expect(Reader(Bytes(wire).first(3), 1).skip_padding(4).outcome == SHORT, "padding cut short");
-    wire[2] = 0xCA;
-    expect(Reader(wire, 1).skip_padding(4).outcome == PADDING, "a wrong padding byte");
-    expect(Reader(Bytes(wire).first(3), 1).skip_padding(4).outcome == PADDING, "a wrong byte before the end");
+    const auto to_four = [](Reader &r) { return r.skip_padding(4); };
+    reads("three padding bytes", {0, 0xCB, 0xCB, 0xCB}, std::uint64_t{3}, to_four, 1);
+    const Wire wrong = {0, 0xCB, 0xCA, 0xCB, 9};
+    expect(Reader(wrong, 1).skip_padding(4).outcome() == PADDING, "a wrong padding byte");
+    expect(Reader(Bytes(wrong).first(3), 1).skip_padding(4).outcome() == PADDING, "a wrong byte before the end");
 }
 
 void patches() {
-    Wire buf(9, CANARY);
-    expect(tikomuci::patch_u32(buf, 1, 0x04030201) && buf == Wire{CANARY, 1, 2, 3, 4, CANARY, CANARY, CANARY, CANARY},
-           "u32 patched");
-    expect(tikomuci::patch_u64(buf, 1, 0x0807060504030201) && buf == Wire{CANARY, 1, 2, 3, 4, 5, 6, 7, 8},
-           "u64 patched");
-    const Wire kept = buf;
-    expect(tikomuci::patch_u32(buf, 6, 0) == ABSENT && buf == kept, "u32 patched outside");
-    expect(tikomuci::patch_u64(buf, 2, 0) == ABSENT && buf == kept, "u64 patched outside");
-    expect(tikomuci::patch_u32(buf, std::numeric_limits<std::uint64_t>::max(), 0) == ABSENT && buf == kept,
-           "u32 patched where the end would wrap");
-    const tikomuci_answer answer = tikomuci_patch_u32(buf.data(), buf.size(), 5, 0);
-    expect(answer.first == 9 && answer.second == 0, "the place after a patch");
+    Guarded &memory = memories().out;
+    for (const Side side : SIDES) {
+        const Output buf = memory.store(9, side);
+        expect(tikomuci::patch_u32(buf, 1, 0x04030201) && memory.holds(buf, {CANARY, 1, 2, 3, 4}), "u32 patched");
+        const Wire patched = {CANARY, 1, 2, 3, 4, 5, 6, 7, 8};
+        expect(tikomuci::patch_u64(buf, 1, 0x0807060504030201) && memory.holds(buf, patched), "u64 patched");
+        for (std::uint64_t offset = 0; offset < 12; ++offset) {
+            const bool narrow = tikomuci::patch_u32(buf, offset, 0) == ABSENT;
+            const bool wide = tikomuci::patch_u64(buf, offset, 0) == ABSENT;
+            expect(narrow == (offset > 5) && wide == (offset > 1), "patched at " + std::to_string(offset));
+        }
+        const Output kept = memory.store(9, side);
+        expect(tikomuci::patch_u32(kept, 6, 0) == ABSENT && tikomuci::patch_u64(kept, 2, 0) == ABSENT &&
+                   tikomuci::patch_u32(kept, FAR, 0) == ABSENT && memory.holds(kept, {}),
+               "a refused patch changes nothing");
+        const tikomuci_answer answer = tikomuci_patch_u32(kept.data(), kept.size(), 5, 0);
+        expect(answer.first == 9 && answer.second == 0, "the place after a patch");
+    }
 }
 
 // The refusal of the String section's view after the byte at `place` became `byte`.
 Outcome damaged(std::size_t place, std::uint8_t byte) {
     Wire file = whole_case();
     file[place] = byte;
-    return tikomuci::section(file, TIKOMUCI_SECTION_STRING).outcome;
+    return tikomuci::section(file, Section::String).outcome();
 }
 
 void section_views() {
     const Wire file = whole_case();
-    const auto strings = tikomuci::section(file, TIKOMUCI_SECTION_STRING);
-    expect(strings && strings.value.data() == file.data() + 16 && strings.value.size() == 15, "the String section");
+    const auto strings = tikomuci::section(file, Section::String);
+    expect(strings && strings->data() == file.data() + 16 && strings->size() == 15, "the String section");
     for (const std::uint64_t id : std::initializer_list<std::uint64_t>{0, 2, 3, 4, 5, 6, 7, 8, 127}) {
-        expect(tikomuci::section(file, id).outcome == ABSENT, "section " + std::to_string(id) + " is not there");
+        expect(tikomuci::section(file, id).outcome() == ABSENT, "section " + std::to_string(id) + " is not there");
     }
-    expect(tikomuci::section(file, std::numeric_limits<std::uint64_t>::max()).outcome == ABSENT, "a far section id");
+    expect(tikomuci::section(file, FAR).outcome() == ABSENT, "a far section id");
     for (std::size_t size = 0; size < file.size(); ++size) {
-        const std::uint64_t stage = size < 12 ? TIKOMUCI_STAGE_HEADER : TIKOMUCI_STAGE_SECTIONS;
-        expect(tikomuci::section(Bytes(file).first(size), TIKOMUCI_SECTION_STRING).outcome ==
-                   Outcome{TIKOMUCI_REFUSAL_SHORT, stage},
+        const Stage stage = size < 12 ? Stage::Header : Stage::Sections;
+        expect(tikomuci::section(Bytes(file).first(size), Section::String).outcome() == Outcome{Refusal::Short, stage},
                "a file cut to " + std::to_string(size) + " bytes");
     }
-    expect(damaged(7, 1) == Outcome{TIKOMUCI_REFUSAL_MAGIC, TIKOMUCI_STAGE_HEADER}, "a wrong magic");
-    expect(damaged(13, 0x11) == Outcome{TIKOMUCI_REFUSAL_SHORT, TIKOMUCI_STAGE_SECTIONS}, "a length past the file");
-    expect(damaged(15, 0xCA) == Outcome{TIKOMUCI_REFUSAL_PADDING, TIKOMUCI_STAGE_SECTIONS}, "a wrong padding byte");
+    expect(damaged(7, 1) == Outcome{Refusal::Magic, Stage::Header}, "a wrong magic");
+    expect(damaged(13, 0x11) == Outcome{Refusal::Short, Stage::Sections}, "a length past the file");
+    expect(damaged(15, 0xCA) == Outcome{Refusal::Padding, Stage::Sections}, "a wrong padding byte");
     expect(damaged(12, 0x88) == ABSENT, "an id of no table is passed over");
     expect(damaged(12, 0x80) == ABSENT, "the end marker's top bit does not matter");
 }
@@ -247,18 +323,26 @@ void overlapping_spans() {
 }  // namespace
 
 int main() {
-    expect(header_calls() == 44, "every call of the header is in the archive");
+    const char *const fault = header_fault();
+    expect(fault == nullptr, "the header in C: " + std::string(fault == nullptr ? "all" : fault));
     marked_table();
     fixed_widths();
     varints();
-    runs_and_arrays();
+    written_runs_and_arrays();
+    read_runs_and_arrays();
+    other_bytes();
     padding();
     patches();
     section_views();
     file_tests();
     table_tests();
     write_tests();
+    builder_tests();
     guard_tests();
+    format_tests();
+    memory_tests();
+    cxx17_tests();
+    released_tests();
     null_pointers();
     overlapping_spans();
     std::printf("C++ host: %d checks passed, %d failed\n", passed, failed);

@@ -1,78 +1,107 @@
-// Tests of the tables of a file as typed rows, and of the names of refusals and stages.
+// Tests of the tables of a file as typed rows, and of the names of refusals, stages and tags.
 
 #include <algorithm>
 #include <limits>
 #include <string>
+#include <type_traits>
 #include <variant>
 #include <vector>
 
 #include "check.hpp"
 #include "tikomuci_tables.hpp"
+#include "walk.hpp"
 
 namespace {
 
 using tikomuci::Bytes;
+using tikomuci::DebugTag;
 using tikomuci::Outcome;
+using tikomuci::Output;
+using tikomuci::Refusal;
 using tikomuci::Sheet;
+using tikomuci::Stage;
+using tikomuci::Tables;
 using tikomuci::Type;
 using tikomuci::TypeTag;
 using tikomuci::Version;
-using tikomuci::Words;
 using WordList = std::vector<std::uint64_t>;
 
-constexpr std::uint64_t FAR = std::numeric_limits<std::uint64_t>::max();
+static_assert(tikomuci::refusal_name(Refusal::None) == "accepted");
+static_assert(tikomuci::refusal_name(Refusal::Limit) == "limit");
+static_assert(tikomuci::refusal_name(Refusal::Short) == "short");
+static_assert(tikomuci::refusal_name(Refusal::Overlong) == "overlong");
+static_assert(tikomuci::refusal_name(Refusal::Magic) == "magic");
+static_assert(tikomuci::refusal_name(Refusal::Padding) == "padding");
+static_assert(tikomuci::refusal_name(Refusal::Bounds) == "bounds");
+static_assert(tikomuci::refusal_name(Refusal::Producer) == "producer");
+static_assert(tikomuci::refusal_name(Refusal::TypeTag) == "type-tag");
+static_assert(tikomuci::refusal_name(Refusal::DebugTag) == "debug-tag");
+static_assert(tikomuci::refusal_name(Refusal::Hints) == "hints");
+static_assert(tikomuci::refusal_name(Refusal::Full) == "full");
+static_assert(tikomuci::refusal_name(Refusal::Sheet) == "sheet");
+static_assert(tikomuci::refusal_name(Refusal::Start) == "start");
+static_assert(tikomuci::refusal_name(Refusal::Absent) == "absent");
+static_assert(tikomuci::refusal_name(Refusal::Overlap) == "overlap");
+static_assert(tikomuci::refusal_name(Refusal::Memory) == "memory");
+static_assert(tikomuci::refusal_name(static_cast<Refusal>(15)) == "unknown");
+static_assert(tikomuci::refusal_name(static_cast<Refusal>(FAR)) == "unknown");
+static_assert(tikomuci::refusal_text(Refusal::Hints) == "a function has optimization hints");
+static_assert(tikomuci::refusal_text(Refusal::Memory) == "there is no memory for the tables");
+static_assert(tikomuci::stage_name(Stage::Limits) == "limits");
+static_assert(tikomuci::stage_name(Stage::Header) == "header");
+static_assert(tikomuci::stage_name(Stage::Sections) == "sections");
+static_assert(tikomuci::stage_name(Stage::String) == "string");
+static_assert(tikomuci::stage_name(Stage::Producer) == "producer");
+static_assert(tikomuci::stage_name(Stage::Type) == "type");
+static_assert(tikomuci::stage_name(Stage::Constant) == "constant");
+static_assert(tikomuci::stage_name(Stage::Global) == "global");
+static_assert(tikomuci::stage_name(Stage::Func) == "func");
+static_assert(tikomuci::stage_name(Stage::Debug) == "debug");
+static_assert(tikomuci::stage_name(Stage::Call) == "call");
+static_assert(tikomuci::stage_name(static_cast<Stage>(11)) == "unknown");
+static_assert(tikomuci::stage_text(static_cast<Stage>(FAR)) == "no call answers this number");
+static_assert(tikomuci::type_name(TypeTag::I1) == "i1" && tikomuci::type_name(TypeTag::I4) == "i4");
+static_assert(tikomuci::type_name(TypeTag::F8E5M3FNU) == "f8e5m3fnu");
+static_assert(tikomuci::type_name(static_cast<TypeTag>(23)).empty());
+static_assert(tikomuci::debug_name(DebugTag::CallSite) == "CallSite" &&
+              tikomuci::debug_fields(DebugTag::CallSite) == 2);
+static_assert(tikomuci::debug_name(static_cast<DebugTag>(7)).empty());
+static_assert(Version{13, 3, 9} < Version{13, 4, 0} && Version{13, 4, 0} < Version{13, 4, 1});
+static_assert(Version{14, 0, 0} > Version{13, 255, 65535} && Version{13, 4, 0} >= Version{13, 4, 0});
 
-static_assert(tikomuci::refusal_name(tikomuci::OVERLAP) == "overlap");
-static_assert(tikomuci::refusal_name(0) == "accepted");
-static_assert(tikomuci::refusal_name(TIKOMUCI_REFUSAL_LIMIT) == "limit");
-static_assert(tikomuci::refusal_name(TIKOMUCI_REFUSAL_SHORT) == "short");
-static_assert(tikomuci::refusal_name(TIKOMUCI_REFUSAL_OVERLONG) == "overlong");
-static_assert(tikomuci::refusal_name(TIKOMUCI_REFUSAL_MAGIC) == "magic");
-static_assert(tikomuci::refusal_name(TIKOMUCI_REFUSAL_PADDING) == "padding");
-static_assert(tikomuci::refusal_name(TIKOMUCI_REFUSAL_BOUNDS) == "bounds");
-static_assert(tikomuci::refusal_name(TIKOMUCI_REFUSAL_PRODUCER) == "producer");
-static_assert(tikomuci::refusal_name(TIKOMUCI_REFUSAL_TYPE_TAG) == "type-tag");
-static_assert(tikomuci::refusal_name(TIKOMUCI_REFUSAL_DEBUG_TAG) == "debug-tag");
-static_assert(tikomuci::refusal_name(TIKOMUCI_REFUSAL_HINTS) == "hints");
-static_assert(tikomuci::refusal_name(TIKOMUCI_REFUSAL_FULL) == "full");
-static_assert(tikomuci::refusal_name(TIKOMUCI_REFUSAL_SHEET) == "sheet");
-static_assert(tikomuci::refusal_name(TIKOMUCI_REFUSAL_START) == "start");
-static_assert(tikomuci::refusal_name(TIKOMUCI_REFUSAL_ABSENT) == "absent");
-static_assert(tikomuci::refusal_name(15) == "unknown" && tikomuci::refusal_name(FAR) == "unknown");
-static_assert(tikomuci::refusal_text(TIKOMUCI_REFUSAL_HINTS) == "a function has optimization hints");
-static_assert(tikomuci::stage_name(TIKOMUCI_STAGE_LIMITS) == "limits");
-static_assert(tikomuci::stage_name(TIKOMUCI_STAGE_HEADER) == "header");
-static_assert(tikomuci::stage_name(TIKOMUCI_STAGE_SECTIONS) == "sections");
-static_assert(tikomuci::stage_name(TIKOMUCI_STAGE_STRING) == "string");
-static_assert(tikomuci::stage_name(TIKOMUCI_STAGE_PRODUCER) == "producer");
-static_assert(tikomuci::stage_name(TIKOMUCI_STAGE_TYPE) == "type");
-static_assert(tikomuci::stage_name(TIKOMUCI_STAGE_CONSTANT) == "constant");
-static_assert(tikomuci::stage_name(TIKOMUCI_STAGE_GLOBAL) == "global");
-static_assert(tikomuci::stage_name(TIKOMUCI_STAGE_FUNC) == "func");
-static_assert(tikomuci::stage_name(TIKOMUCI_STAGE_DEBUG) == "debug");
-static_assert(tikomuci::stage_name(TIKOMUCI_STAGE_CALL) == "call");
-static_assert(tikomuci::stage_name(11) == "unknown" && tikomuci::stage_text(FAR) == "no call answers this number");
-static_assert(tikomuci::type_name(0) == "i1" && tikomuci::type_name(22) == "i4" && tikomuci::type_name(23).empty());
-static_assert(tikomuci::type_name(0x82) == "f8e5m3fnu" && tikomuci::type_name(0x182).empty());
+// The rows of a sheet stay with its stores, and nothing changes them there.
+static_assert(!std::is_copy_constructible_v<Sheet> && !std::is_copy_assignable_v<Sheet>);
+static_assert(!std::is_copy_constructible_v<Tables> && !std::is_copy_assignable_v<Tables>);
+static_assert(std::is_same_v<decltype(std::declval<Tables &>().sheet()), const Sheet &>);
 
 template <typename List, typename Value>
 bool holds(const List &list, const std::vector<Value> &values) {
     return list.size() == values.size() && std::equal(values.begin(), values.end(), list.begin());
 }
 
+bool holds(Bytes bytes, const Wire &wanted) {
+    return std::equal(bytes.begin(), bytes.end(), wanted.begin(), wanted.end());
+}
+
 bool spells(const std::optional<Bytes> &bytes, const std::string &text) {
-    return bytes &&
-           std::equal(bytes->begin(), bytes->end(), text.begin(), text.end(),
-                      [](std::uint8_t byte, char letter) { return byte == static_cast<std::uint8_t>(letter); });
+    return bytes && holds(*bytes, Wire(text.begin(), text.end()));
+}
+
+Tables tables_of(const std::string &what, const Wire &file) {
+    auto got = tikomuci::read(file);
+    expect(static_cast<bool>(got), what + " is read");
+    return std::move(got).value_or(Tables());
 }
 
 void every_row() {
-    const auto got = tikomuci::read(every_table());
-    expect(got && got.value.words == every_table_sheet() && got.value.pool == every_table_pool(), "the stores");
-    const Sheet &sheet = got.value.sheet;
+    const Tables tables = tables_of("every table", every_table());
+    const Sheet &sheet = tables.sheet();
+    expect(holds(sheet.bytes(), little_endian(every_table_sheet())) && holds(sheet.pool(), every_table_pool()),
+           "the stores");
     expect(sheet.version() == Version{13, 4, 0} && sheet.producer() == 1, "the version and the producer");
-    expect(sheet.strings() == 2 && sheet.types() == 2 && sheet.constants() == 1 && sheet.globals() == 1 &&
-               sheet.functions() == 1 && sheet.attributes() == 1 && sheet.lists() == 1,
+    expect(sheet.strings().size() == 2 && sheet.types().size() == 2 && sheet.constants().size() == 1 &&
+               sheet.globals().size() == 1 && sheet.functions().size() == 1 && sheet.attributes().size() == 1 &&
+               sheet.lists().size() == 1,
            "how many rows there are");
     expect(spells(sheet.string(0), "k") && spells(sheet.string(1), "main"), "the strings");
     expect(spells(sheet.constant(0), "\xDE\xAD\xBE"), "the constant");
@@ -85,38 +114,89 @@ void every_row() {
                !function->is_private() && function->location == 1 && spells(function->body, "\x0A\x0B\x0C\x0D"),
            "the function");
     const auto attribute = sheet.attribute(0);
-    expect(attribute && attribute->tag == tikomuci::DebugTag::DIFile && holds(attribute->fields, WordList{0, 1}),
+    expect(attribute && attribute->tag == DebugTag::DIFile && holds(attribute->fields, WordList{0, 1}),
            "the attribute");
     const auto list = sheet.list(0);
     expect(list && holds(*list, WordList{1}), "the list");
 }
 
 void rows_outside() {
-    const auto got = tikomuci::read(every_table());
-    const Sheet &sheet = got.value.sheet;
-    for (const std::uint64_t i : {std::uint64_t{2}, std::uint64_t{1} << 61, FAR}) {
-        expect(!sheet.string(i) && !sheet.type(i) && !sheet.constant(i) && !sheet.global(i) && !sheet.function(i) &&
-                   !sheet.attribute(i) && !sheet.list(i),
-               "row " + std::to_string(i) + " is not there");
-    }
-    expect(!sheet.constant(1) && !sheet.global(1) && !sheet.function(1) && !sheet.attribute(1) && !sheet.list(1),
-           "a table of one row has no second");
+    const Tables tables = tables_of("every table", every_table());
+    const Sheet &sheet = tables.sheet();
+    expect(walk::rows_outside(sheet) == 0, "no table has a row behind its last");
+    expect(!sheet.string(2) && !sheet.type(2) && !sheet.constant(1) && !sheet.global(1) && !sheet.function(1) &&
+               !sheet.attribute(1) && !sheet.list(1),
+           "a number that no row has");
     const Sheet nothing;
-    expect(nothing.strings() == 0 && !nothing.string(0) && !nothing.producer(), "a sheet that was not opened");
+    expect(nothing.strings().empty() && !nothing.string(0) && !nothing.producer() && nothing.bytes().empty(),
+           "a sheet that was not opened");
 }
 
-// Moving the tables keeps their rows.
-void moved_tables() {
-    auto got = tikomuci::read(whole_case());
-    const tikomuci::Tables kept = std::move(got.value);
-    const auto row = kept.sheet.string(1);
-    expect(spells(row, "bc") && row->data() == kept.pool.data() + 1, "a row of moved tables");
-}
-
-void little_endian(Wire &wire, std::int64_t value, unsigned width) {
-    for (unsigned shift = 0; shift < 8 * width; shift += 8) {
-        wire.push_back(static_cast<std::uint8_t>(static_cast<std::uint64_t>(value) >> shift));
+// A row of a range is the row of its number, whichever way that is found.
+void ranges() {
+    const Tables tables = tables_of("every table", every_table());
+    const Sheet &sheet = tables.sheet();
+    const walk::Sums rows = walk::by_range(sheet);
+    expect(rows.size() == 7 + 9 && walk::by_number(sheet) == rows, "rows by range and by number");
+    std::vector<Wire> strings;
+    for (const Bytes string : sheet.strings()) {
+        strings.emplace_back(string.begin(), string.end());
     }
+    expect(strings == std::vector<Wire>{{'k'}, {'m', 'a', 'i', 'n'}}, "the strings in their order");
+    const auto types = sheet.types();
+    auto type = types.begin();
+    const auto first = type++;
+    expect(first.number() == 0 && type.number() == 1 && first != type && (*first).tag == TypeTag::I32 &&
+               (*type).tag == TypeTag::Func && ++type == types.end(),
+           "steps of a range");
+}
+
+// Moving the tables keeps their rows, and leaves none behind.
+void moved_tables() {
+    Tables tables = tables_of("the whole case", whole_case());
+    const Sheet &left = tables.sheet();
+    Tables kept = std::move(tables);
+    const auto row = kept.sheet().string(1);
+    expect(spells(row, "bc") && row->data() == kept.sheet().pool().data() + 1, "a row of moved tables");
+    expect(walk::by_range(left) == walk::Sums(7, 0) && left.bytes().empty() && left.pool().empty() && !left.string(0),
+           "tables that were moved from answer nothing");
+    Tables other = tables_of("every table", every_table());
+    other = std::move(kept);
+    expect(spells(other.sheet().string(1), "bc") && other.sheet().functions().empty(), "tables that were moved over");
+    expect(kept.sheet().strings().empty(), "and those moved from");
+}
+
+// A sheet over stores that the call filled, wherever they stand: as the one over stores of its own, without an index
+// and with one.
+void lent_stores() {
+    const Wire file = every_table();
+    const Tables tables = tables_of("every table", file);
+    const walk::Sums rows = walk::by_range(tables.sheet());
+    for (std::size_t shift = 0; shift < 8; ++shift) {
+        const std::string what = "stores at " + std::to_string(shift);
+        Wire words(shift + 49 * 8 + 7, CANARY);
+        Wire bytes(shift + 12 + 1, CANARY);
+        auto sheet = tikomuci::read_sheet(file, Output(words).subspan(shift), Output(bytes).subspan(shift));
+        expect(sheet && sheet->bytes().data() == words.data() + shift && sheet->bytes().size() == 49 * 8 &&
+                   sheet->pool().data() == bytes.data() + shift && sheet->pool().size() == 12,
+               what + ": the sheet is what was read");
+        if (!sheet) {
+            continue;
+        }
+        expect(walk::by_range(*sheet) == rows && walk::by_number(*sheet) == rows, what + ": the rows");
+        std::vector<std::uint32_t> index(sheet->index_size() + 1, 0xA5A5A5A5);
+        expect(sheet->index(std::span(index).first(sheet->index_size() - 1)) == FULL &&
+                   index == std::vector<std::uint32_t>(index.size(), 0xA5A5A5A5),
+               what + ": a store that is too small for an index stays");
+        expect(sheet->index_size() == 7 && sheet->index(index) == Outcome{} && index[7] == 0xA5A5A5A5,
+               what + ": an index");
+        expect(walk::by_range(*sheet) == rows && walk::by_number(*sheet) == rows && walk::rows_outside(*sheet) == 0,
+               what + ": the rows by an index");
+    }
+    Wire small(48 * 8);
+    Wire pool(12);
+    expect(tikomuci::read_sheet(file, small, pool).outcome() == FULL, "a store that is too small");
+    expect(tikomuci::read_sheet(file, pool, pool).outcome() == tikomuci::OVERLAPPING, "one store for both");
 }
 
 // Bytes and numbers of 32 or 64 bits, one after the other.
@@ -127,18 +207,19 @@ struct Spelled {
         wire.insert(wire.end(), more.begin(), more.end());
         return *this;
     }
-    Spelled &i32(std::int32_t value) {
-        little_endian(wire, value, 4);
-        return *this;
-    }
-    Spelled &i64(std::int64_t value) {
-        little_endian(wire, value, 8);
-        return *this;
+    Spelled &i32(std::int32_t value) { return number(static_cast<std::uint64_t>(value), 4); }
+    Spelled &i64(std::int64_t value) { return number(static_cast<std::uint64_t>(value), 8); }
+
+  private:
+    Spelled &number(std::uint64_t value, std::size_t width) {
+        Wire word = little_endian({value});
+        word.resize(width);
+        return bytes(word);
     }
 };
 
 // A file of version 13.`minor` with these type entries, and the types that are read from it.
-tikomuci::Tables types_of(std::uint8_t minor, const std::vector<Spelled> &entries) {
+Tables types_of(std::uint8_t minor, const std::vector<Spelled> &entries) {
     Spelled payload{{static_cast<std::uint8_t>(entries.size()), 0xCB, 0xCB, 0xCB}};
     std::int32_t start = 0;
     for (const Spelled &entry : entries) {
@@ -153,14 +234,15 @@ tikomuci::Tables types_of(std::uint8_t minor, const std::vector<Spelled> &entrie
     tikomuci::Writer writer(file, 12);
     const bool written = writer.byte(TIKOMUCI_SECTION_TYPE) && writer.varint(payload.wire.size()) &&
                          writer.bytes(payload.wire) && writer.byte(0);
-    auto got = tikomuci::read(Bytes(file).first(writer.tell()));
-    expect(written && got && got.value.sheet.types() == entries.size(), "types of 13." + std::to_string(minor));
-    return std::move(got.value);
+    file.resize(writer.tell());
+    Tables tables = tables_of("types of 13." + std::to_string(minor), file);
+    expect(written && tables.sheet().types().size() == entries.size(), "types of 13." + std::to_string(minor));
+    return tables;
 }
 
 template <typename Kind>
-Kind kind_of(const tikomuci::Tables &tables, std::uint64_t i, TypeTag tag) {
-    const std::optional<Type> type = tables.sheet.type(i);
+Kind kind_of(const Tables &tables, std::uint64_t i, TypeTag tag) {
+    const std::optional<Type> type = tables.sheet().type(i);
     const bool there = type && type->tag == tag && std::holds_alternative<Kind>(type->kind);
     expect(there, "type " + std::to_string(i) + " is of its kind");
     return there ? std::get<Kind>(type->kind) : Kind{};
@@ -233,20 +315,27 @@ void not_opened(const std::string &what, std::size_t word, std::uint64_t value) 
     const Wire pool = every_table_pool();
     expect(words[word] != value, what + ": the word is another");
     words[word] = value;
-    expect(!Sheet::open(words, pool), what);
+    const Wire sheet = little_endian(words);
+    expect(Sheet::open(sheet, pool).outcome() == SHEET, what);
 }
 
 void sheets_that_are_none() {
     const WordList words = every_table_sheet();
-    const Wire pool = every_table_pool();
-    expect(Sheet::open(words, pool).has_value(), "a sheet is opened");
-    for (std::size_t size = 0; size < words.size(); ++size) {
-        expect(!Sheet::open(Words(words).first(size), pool), "a sheet cut to " + std::to_string(size) + " words");
+    Wire sheet = little_endian(words);
+    Wire pool = every_table_pool();
+    expect(static_cast<bool>(Sheet::open(sheet, pool)), "a sheet is opened");
+    for (std::size_t size = 0; size < sheet.size(); ++size) {
+        expect(Sheet::open(Bytes(sheet).first(size), pool).outcome() == SHEET,
+               "a sheet cut to " + std::to_string(size) + " bytes");
     }
-    WordList longer = words;
-    longer.push_back(0);
-    expect(!Sheet::open(longer, pool), "a sheet with a word too many");
-    expect(!Sheet::open(words, Bytes(pool).first(11)), "a pool with a byte too few");
+    for (int more = 0; more < 8; ++more) {
+        sheet.push_back(0);
+        expect(Sheet::open(sheet, pool).outcome() == SHEET, "a sheet with bytes too many");
+    }
+    sheet.resize(words.size() * 8);
+    expect(Sheet::open(sheet, Bytes(pool).first(11)).outcome() == SHEET, "a pool with a byte too few");
+    pool.push_back(0);
+    expect(Sheet::open(sheet, pool).outcome() == SHEET, "a pool with a byte too many");
     not_opened("a major version above 255", 0, 256);
     not_opened("a minor version above 255", 1, 256);
     not_opened("a version tag above 65535", 2, 65536);
@@ -276,9 +365,7 @@ void refused_reads() {
     Wire file = every_table();
     file[97] = 4;
     const auto got = tikomuci::read(file);
-    expect(got.outcome == Outcome{TIKOMUCI_REFUSAL_HINTS, TIKOMUCI_STAGE_FUNC} && got.value.words.empty() &&
-               got.value.pool.empty() && got.value.sheet.strings() == 0,
-           "a refused file has no tables");
+    expect(!got && got.outcome() == Outcome{Refusal::Hints, Stage::Func}, "a refused file has no tables");
 }
 
 }  // namespace
@@ -286,7 +373,9 @@ void refused_reads() {
 void table_tests() {
     every_row();
     rows_outside();
+    ranges();
     moved_tables();
+    lent_stores();
     newest_types();
     older_types();
     sheets_that_are_none();

@@ -1,5 +1,6 @@
-// threads FILE..: sixty threads read shared files at once, each into stores of its own, and view rows of their own
-// number. Run under a thread sanitizer, it shows that no call keeps anything, or touches what another one was lent.
+// threads FILE..: sixty threads at once. Each reads shared files into stores of its own, views rows of its own number,
+// and reads and writes a file of its own in stores that stand side by side with those of its neighbours, in one
+// allocation. Run under a thread sanitizer, it shows that no call keeps anything, or touches what another one was lent.
 
 #include <algorithm>
 #include <cstdio>
@@ -11,18 +12,21 @@
 #include <thread>
 #include <vector>
 
-#include "draft.hpp"
+#include "check.hpp"
+#include "tikomuci_builder.hpp"
 
 namespace {
 
+using tikomuci::Builder;
 using tikomuci::Bytes;
+using tikomuci::Output;
 
 constexpr std::uint64_t THREADS = 60;
 constexpr int ROUNDS = 30;
 constexpr std::uint64_t SECTIONS = 7;
 
-// A file that all threads read, and what every one of them has to get.
-struct Shared {
+// A file, and what every reading of it has to get.
+struct Known {
     Wire file;
     tikomuci::Size size;
     Wire sheet;
@@ -32,10 +36,10 @@ struct Shared {
 
 bool same(Bytes a, Bytes b) { return std::equal(a.begin(), a.end(), b.begin(), b.end()); }
 
-// What one reading gets. It is done once before the threads start, and by each of them.
-Shared read(Wire file) {
-    Shared got{std::move(file), {}, {}, {}, {}};
-    got.size = tikomuci::measure(got.file).value;
+// What one reading gets, before the threads start.
+Known read(Wire file) {
+    Known got{std::move(file), {}, {}, {}, {}};
+    got.size = tikomuci::measure(got.file).value_or(tikomuci::Size{});
     got.sheet.resize(got.size.words * 8);
     got.pool.resize(got.size.bytes);
     if (!tikomuci::read(got.file, got.sheet, got.pool)) {
@@ -55,38 +59,39 @@ Wire row(std::uint8_t kind, std::uint64_t number) {
     return bytes;
 }
 
-Draft sixty_rows() {
-    Draft draft;
-    for (std::uint64_t number = 0; number < THREADS; ++number) {
-        draft.strings.push_back(row('s', number));
-        draft.constants.push_back(row('c', number));
-        draft.functions.push_back({{number, 0, 0, 0}, row('b', number)});
+// A file with these rows.
+Known rows(std::uint64_t first, std::uint64_t last) {
+    Builder tables({13, 4, 0});
+    for (std::uint64_t number = first; number < last; ++number) {
+        const std::uint64_t name = tables.string(row('s', number));
+        tables.constant(row('c', number));
+        tables.function({name, 0, 0, 0, row('b', number)});
     }
-    return draft;
+    return read(tables.file().value_or(Wire()));
 }
 
-bool same_tables(const Shared &shared) {
+bool same_tables(const Known &shared) {
     Wire sheet(shared.sheet.size());
     Wire pool(shared.pool.size());
     const auto measured = tikomuci::measure(shared.file);
     const auto size = tikomuci::read(shared.file, sheet, pool);
-    return measured && size && measured.value == shared.size && size.value == shared.size && sheet == shared.sheet &&
+    return measured && size && *measured == shared.size && *size == shared.size && sheet == shared.sheet &&
            pool == shared.pool;
 }
 
-bool same_sections(const Shared &shared) {
+bool same_sections(const Known &shared) {
     for (std::uint64_t id = 1; id <= SECTIONS; ++id) {
         const auto &wanted = shared.sections[id - 1];
         const auto got = tikomuci::section(shared.file, id);
-        if (got.outcome != wanted.outcome || !same(got.value, wanted.value)) {
+        if (got.outcome() != wanted.outcome() || !same(got.value_or(Bytes{}), wanted.value_or(Bytes{}))) {
             return false;
         }
     }
     return true;
 }
 
-bool same_image(const Shared &shared) {
-    Wire image(tikomuci::image(shared.sheet).value);
+bool same_image(const Known &shared) {
+    Wire image(tikomuci::image(shared.sheet).value_or(0));
     return tikomuci::write(shared.sheet, shared.pool, image) && image == shared.file;
 }
 
@@ -94,26 +99,68 @@ bool own_rows(Bytes file, std::uint64_t number) {
     const auto string = tikomuci::string(file, number);
     const auto constant = tikomuci::constant(file, number);
     const auto body = tikomuci::body(file, number);
-    return string && same(string.value, row('s', number)) && constant && same(constant.value, row('c', number)) &&
-           body && same(body.value, row('b', number));
+    return string && same(*string, row('s', number)) && constant && same(*constant, row('c', number)) && body &&
+           same(*body, row('b', number));
+}
+
+// A thread's own file, and its stores in the one allocation.
+struct Slot {
+    Known own;
+    Output sheet;
+    Output pool;
+    Output image;
+
+    [[nodiscard]] bool holds() const { return same(sheet, own.sheet) && same(pool, own.pool) && same(image, own.file); }
+};
+
+// No store begins where a word of the allocation does, but by chance.
+std::vector<Slot> slots(Wire &memory) {
+    std::vector<Slot> slots;
+    std::size_t size = 1;
+    for (std::uint64_t number = 0; number < THREADS; ++number) {
+        slots.push_back({rows(number, number + 1), {}, {}, {}});
+        const Known &own = slots.back().own;
+        size += own.sheet.size() + own.pool.size() + own.file.size();
+    }
+    memory.assign(size, CANARY);
+    Output rest = Output(memory).subspan(1);
+    const auto take = [&](std::size_t count) {
+        const Output taken = rest.first(count);
+        rest = rest.subspan(count);
+        return taken;
+    };
+    for (Slot &slot : slots) {
+        slot.sheet = take(slot.own.sheet.size());
+        slot.pool = take(slot.own.pool.size());
+        slot.image = take(slot.own.file.size());
+    }
+    return slots;
+}
+
+bool own_stores(const Slot &slot) {
+    std::fill(slot.sheet.begin(), slot.sheet.end(), CANARY);
+    std::fill(slot.pool.begin(), slot.pool.end(), CANARY);
+    std::fill(slot.image.begin(), slot.image.end(), CANARY);
+    return tikomuci::read(slot.own.file, slot.sheet, slot.pool) && tikomuci::write(slot.sheet, slot.pool, slot.image) &&
+           slot.holds();
 }
 
 // How many of the rounds of a thread got something else.
-int wrong_rounds(const std::vector<Shared> &files, std::uint64_t number) {
+int wrong_rounds(const std::vector<Known> &files, const Slot &slot, std::uint64_t number) {
     int wrong = 0;
     for (int round = 0; round < ROUNDS; ++round) {
-        const bool right =
-            own_rows(files[0].file, number) && std::all_of(files.begin(), files.end(), [](const Shared &shared) {
-                return same_tables(shared) && same_sections(shared) && same_image(shared);
-            });
+        const bool right = own_rows(files[0].file, number) && own_stores(slot) &&
+                           std::all_of(files.begin(), files.end(), [](const Known &shared) {
+                               return same_tables(shared) && same_sections(shared) && same_image(shared);
+                           });
         wrong += right ? 0 : 1;
     }
     return wrong;
 }
 
-std::vector<Shared> shared_files(int count, char **paths) {
-    std::vector<Shared> files;
-    files.push_back(read(sixty_rows().file()));
+std::vector<Known> shared_files(int count, char **paths) {
+    std::vector<Known> files;
+    files.push_back(rows(0, THREADS));
     for (int i = 0; i < count; ++i) {
         std::ifstream in(paths[i], std::ios::binary);
         files.push_back(read(Wire(std::istreambuf_iterator<char>(in), {})));
@@ -124,19 +171,24 @@ std::vector<Shared> shared_files(int count, char **paths) {
 }  // namespace
 
 int main(int count, char **arguments) {
-    const std::vector<Shared> files = shared_files(count - 1, arguments + 1);
+    const std::vector<Known> files = shared_files(count - 1, arguments + 1);
+    Wire memory;
+    const std::vector<Slot> own = slots(memory);
     std::vector<int> wrong(THREADS, 0);
     std::latch start(THREADS);
     std::vector<std::jthread> threads;
     for (std::uint64_t number = 0; number < THREADS; ++number) {
         threads.emplace_back([&, number] {
             start.arrive_and_wait();
-            wrong[number] = wrong_rounds(files, number);
+            wrong[number] = wrong_rounds(files, own[number], number);
         });
     }
     threads.clear();
     const auto mistaken = std::count_if(wrong.begin(), wrong.end(), [](int rounds) { return rounds != 0; });
-    std::printf("%zu threads, %d rounds over %zu shared files: %td threads got bytes that were not theirs\n",
-                wrong.size(), ROUNDS, files.size(), mistaken);
-    return mistaken == 0 ? EXIT_SUCCESS : EXIT_FAILURE;
+    const auto spoilt = std::count_if(own.begin(), own.end(), [](const Slot &slot) { return !slot.holds(); });
+    std::printf(
+        "%zu threads, %d rounds over %zu shared files, and stores side by side: %td threads got bytes that were not "
+        "theirs, %td stores hold others\n",
+        wrong.size(), ROUNDS, files.size(), mistaken, spoilt);
+    return mistaken == 0 && spoilt == 0 && memory[0] == CANARY ? EXIT_SUCCESS : EXIT_FAILURE;
 }

@@ -1,7 +1,6 @@
 // Tests of writing: the image of a sheet and a pool, what is refused, and reading back what was written.
 
 #include <algorithm>
-#include <limits>
 #include <stdexcept>
 #include <string>
 #include <vector>
@@ -17,9 +16,8 @@ using tikomuci::Output;
 using tikomuci::Size;
 using Sheet = std::vector<std::uint64_t>;
 
-constexpr std::uint64_t FAR = std::numeric_limits<std::uint64_t>::max();
-constexpr Outcome LIMIT{TIKOMUCI_REFUSAL_LIMIT, TIKOMUCI_STAGE_CALL};
-constexpr Outcome START{TIKOMUCI_REFUSAL_START, TIKOMUCI_STAGE_CALL};
+constexpr Outcome LIMIT{tikomuci::Refusal::Limit, tikomuci::Stage::Call};
+constexpr Outcome START{tikomuci::Refusal::Start, tikomuci::Stage::Call};
 
 // A sheet and a pool, and the bytes that they have to give.
 struct Case {
@@ -74,11 +72,11 @@ void writes_into(const Case &c, std::size_t shift, std::size_t room) {
     const Bytes lent = Bytes(sheet).subspan(shift);
     const auto written = tikomuci::write(lent, c.pool, Output(out).subspan(3, room));
     const std::string where = c.what + " from " + std::to_string(shift) + ", into " + std::to_string(room) + " bytes";
-    expect(written.outcome == (fits ? Outcome{} : FULL), where + ": the outcome");
-    expect(written.value == (fits ? c.image.size() : 0), where + ": the image's size");
+    expect(written.outcome() == (fits ? Outcome{} : FULL), where + ": the outcome");
+    expect(written.value_or(0) == (fits ? c.image.size() : 0), where + ": the image's size");
     expect(out == wanted, where + ": the output");
     const auto measured = tikomuci::image(lent);
-    expect(measured && measured.value == c.image.size(), where + ": measured");
+    expect(measured && *measured == c.image.size(), where + ": measured");
 }
 
 void outputs() {
@@ -109,15 +107,15 @@ struct Stores {
 };
 
 Stores stores_of(const std::string &what, const Wire &file) {
-    const Size size = tikomuci::measure(file).value;
+    const Size size = tikomuci::measure(file).value_or(Size{});
     Stores stores{Wire(size.words * 8), Wire(size.bytes)};
-    expect(tikomuci::read(file, stores.sheet, stores.pool).outcome == Outcome{}, what + ": read");
+    expect(tikomuci::read(file, stores.sheet, stores.pool).outcome() == Outcome{}, what + ": read");
     return stores;
 }
 
 Wire image_of(const std::string &what, const Stores &stores) {
-    Wire image(tikomuci::image(stores.sheet).value, CANARY);
-    expect(tikomuci::write(stores.sheet, stores.pool, image).outcome == Outcome{}, what + ": written");
+    Wire image(tikomuci::image(stores.sheet).value_or(0), CANARY);
+    expect(tikomuci::write(stores.sheet, stores.pool, image).outcome() == Outcome{}, what + ": written");
     return image;
 }
 
@@ -140,9 +138,9 @@ void back_and_forth() {
 Outcome judged(const std::string &what, Bytes sheet, Bytes pool) {
     Wire out(1024, CANARY);
     const auto written = tikomuci::write(sheet, pool, out);
-    expect(written.value == 0 && out == Wire(out.size(), CANARY), what + ": the output stays");
-    expect(tikomuci::write(sheet, pool, {}).outcome == written.outcome, what + ": the output is judged last");
-    return written.outcome;
+    expect(!written && out == Wire(out.size(), CANARY), what + ": the output stays");
+    expect(tikomuci::write(sheet, pool, {}).outcome() == written.outcome(), what + ": the output is judged last");
+    return written.outcome();
 }
 
 // A sheet that is refused whether its pool is lent or not.
@@ -150,7 +148,7 @@ void ill_formed(const std::string &what, const Sheet &words, const Wire &pool) {
     const Wire sheet = little_endian(words);
     expect(judged(what, sheet, pool) == SHEET, what + " is not written");
     const auto measured = tikomuci::image(sheet);
-    expect(measured.outcome == SHEET && measured.value == 0, what + " is not measured");
+    expect(measured.outcome() == SHEET, what + " is not measured");
 }
 
 // A sheet with a row in every table, after the word at `place` became `word`.
@@ -203,7 +201,7 @@ void lengths() {
         sheet.push_back(0);
         const std::string what = std::to_string(more) + " bytes behind the last word";
         expect(judged(what, sheet, whole_case_pool()) == SHEET, what + " are not written");
-        expect(tikomuci::image(sheet).outcome == SHEET, what + " are not measured");
+        expect(tikomuci::image(sheet).outcome() == SHEET, what + " are not measured");
     }
     sheet.resize(21 * 8);
     for (const Wire &pool : {Wire{}, Wire{'a', 'b'}, Wire{'a', 'b', 'c', 'd'}}) {
@@ -228,17 +226,17 @@ void large_rows() {
     const auto measured = [](const Sheet &rows, std::uint64_t total) {
         return tikomuci::image(little_endian(strings(rows, total)));
     };
-    expect(measured({far_start + 1}, far_start + 1).outcome == LIMIT, "one string over 2^32 bytes");
-    expect(measured({FAR}, FAR).outcome == LIMIT, "one string of 2^64 - 1 bytes");
-    expect(measured({far_start, 0}, far_start).outcome == START, "a string that starts at 2^32");
-    expect(measured({far_start - 1, 1}, far_start).outcome == LIMIT, "a string that starts before 2^32");
-    expect(measured({far_start + 1, 1}, far_start + 1).outcome == SHEET, "a large string and a pool that is no sum");
-    expect(measured({FAR, 1}, 0).outcome == SHEET, "row lengths whose sum would wrap");
+    expect(measured({far_start + 1}, far_start + 1).outcome() == LIMIT, "one string over 2^32 bytes");
+    expect(measured({FAR}, FAR).outcome() == LIMIT, "one string of 2^64 - 1 bytes");
+    expect(measured({far_start, 0}, far_start).outcome() == START, "a string that starts at 2^32");
+    expect(measured({far_start - 1, 1}, far_start).outcome() == LIMIT, "a string that starts before 2^32");
+    expect(measured({far_start + 1, 1}, far_start + 1).outcome() == SHEET, "a large string and a pool that is no sum");
+    expect(measured({FAR, 1}, 0).outcome() == SHEET, "row lengths whose sum would wrap");
     // The image has 12 bytes of header, 8 of the section's, 8 of its count and start, and the end.
     const std::uint64_t most = (std::uint64_t{1} << 30) - 29;
     const auto at_limit = measured({most}, most);
-    expect(at_limit && at_limit.value == most + 29, "an image at the limit");
-    expect(measured({most + 1}, most + 1).outcome == LIMIT, "an image over the limit");
+    expect(at_limit && *at_limit == most + 29, "an image at the limit");
+    expect(measured({most + 1}, most + 1).outcome() == LIMIT, "an image over the limit");
     const Wire sheet = little_endian(strings({far_start, 0}, far_start));
     expect(judged("a large string without its pool", sheet, whole_case_pool()) == SHEET,
            "the pool is judged before the starts");
@@ -265,7 +263,7 @@ void null_spans() {
 }
 
 bool overlapping(Bytes sheet, Bytes pool, Output out) {
-    return tikomuci::write(sheet, pool, out).outcome == tikomuci::OVERLAPPING;
+    return tikomuci::write(sheet, pool, out).outcome() == tikomuci::OVERLAPPING;
 }
 
 void overlapping_spans() {

@@ -22,16 +22,15 @@ int main(int count, char **arguments) try {
 
     const auto tables = tikomuci::read(file);
     if (!tables) {
-        std::cerr << arguments[1] << ": refused: " << tikomuci::refusal_text(tables.outcome.refusal) << ", "
-                  << tikomuci::stage_text(tables.outcome.stage) << "\n";
+        std::cerr << arguments[1] << ": refused: " << tikomuci::refusal_text(tables.outcome().refusal) << ", "
+                  << tikomuci::stage_text(tables.outcome().stage) << "\n";
         return 1;
     }
-    const tikomuci::Sheet &sheet = tables.value.sheet;
-    for (std::uint64_t i = 0; i < sheet.functions(); ++i) {
-        const auto function = sheet.function(i);
-        if (function->is_kernel()) {
-            const auto name = sheet.string(function->name);  // nothing if the file has no such string
-            std::cout << (name ? std::string(name->begin(), name->end()) : "(no name)") << ": " << function->body.size()
+    const tikomuci::Sheet &sheet = tables->sheet();
+    for (const tikomuci::Function &function : sheet.functions()) {
+        if (function.is_kernel()) {
+            const auto name = sheet.string(function.name);  // nothing if the file has no such string
+            std::cout << (name ? std::string(name->begin(), name->end()) : "(no name)") << ": " << function.body.size()
                       << " bytes\n";
         }
     }

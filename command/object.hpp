@@ -1,0 +1,36 @@
+// What is said of a file, as one object of JSON in one line. Rows are as the sheet has them, and no name is resolved.
+#ifndef TIKOMUCI_COMMAND_OBJECT_HPP
+#define TIKOMUCI_COMMAND_OBJECT_HPP
+
+#include <string_view>
+
+#include "container.hpp"
+#include "sink.hpp"
+#include "status.hpp"
+#include "tikomuci_tables.hpp"
+
+namespace command::object {
+
+/// A file that could not be read, whose bytes could not be written, or for which there was no memory.
+void put_failure(Sink &out, std::string_view name, const Failure &failure);
+
+/// A refusal, where nothing else is told.
+void put_refusal(Sink &out, std::string_view name, tikomuci::Outcome refused);
+
+/// A file that is accepted, where its tables are not shown.
+void put_size(Sink &out, std::string_view name, tikomuci::Bytes file, tikomuci::Size size);
+
+/// What header and walk tell of a file that is refused.
+void put_shown(Sink &out, std::string_view name, const Container &container, tikomuci::Outcome refused);
+
+/// The same of a file that is accepted, and its tables.
+void put_shown(Sink &out, std::string_view name, const Container &container, const tikomuci::Sheet &sheet,
+               std::uint64_t constants_at);
+
+/// A part of a file: what it is (`key` and `number`), where, and its checksum.
+void put_view(Sink &out, std::string_view name, std::string_view key, std::uint64_t number, std::uint64_t offset,
+              tikomuci::Bytes bytes);
+
+}  // namespace command::object
+
+#endif
