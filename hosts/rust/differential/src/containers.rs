@@ -6,7 +6,7 @@ use oracle::bytecode::decoder::window::{refusal, sections};
 use oracle::bytecode::encoding::EncodingWriter;
 use oracle::bytecode::MAGIC;
 
-use crate::tally::{Random, Tally};
+use crate::tally::{Against, Random, Report, Tally};
 
 const RANDOM_FILES: u64 = 60_000;
 
@@ -76,9 +76,9 @@ fn wanted(file: &[u8], id: u64) -> Answer {
     }
 }
 
-pub fn compare(random: &mut Random, add: &mut impl FnMut(Tally)) {
+pub fn compare(random: &mut Random, report: &mut Report) {
     println!("views:");
-    let mut tally = Tally::new("section");
+    let mut tally = Tally::new("section", Against::Rust);
     let mut compare = |file: &[u8]| {
         for id in (0..10).chain([127, 255, 256, u64::MAX]) {
             let (ours, wanted) = (boundary::section(file, id), wanted(file, id));
@@ -87,11 +87,11 @@ pub fn compare(random: &mut Random, add: &mut impl FnMut(Tally)) {
             });
         }
     };
-    for _ in 0..RANDOM_FILES {
+    for _ in 0..report.share_of(RANDOM_FILES) {
         let mut file = random_file(random);
         compare(&file);
         damage(random, &mut file);
         compare(&file);
     }
-    add(tally);
+    report.add(tally);
 }

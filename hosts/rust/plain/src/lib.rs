@@ -39,6 +39,7 @@ pub struct Reading {
 #[derive(Default)]
 struct Tables {
     version: Version,
+    sections: Sections,
     producer: Option<u64>,
     strings: Vec<Range<usize>>,
     types: Table,
@@ -55,7 +56,7 @@ impl Tables {
     fn read(&mut self, file: &[u8], manner: &mut impl Manner) -> Result<(), Refusal> {
         let (version, sections) = container::sections(file, manner)?;
         let payload = |id: usize| sections[id].clone();
-        self.version = version;
+        (self.version, self.sections) = (version, sections.clone());
         self.strings = entries::places(file, payload(1), 4, manner).at_stage(3)?;
         self.producer = rows::producer(file, payload(7), self.strings.len() as u64).at_stage(4)?;
         types::read(file, payload(5), version, manner, &mut self.types).at_stage(5)?;
@@ -99,6 +100,7 @@ pub struct Followed {
     pub end: Option<Refusal>,
     /// What it had read by then.
     pub reading: Reading,
+    pub sections: Sections,
 }
 
 /// Reads a file as decoder.rs does that has so many bytes of memory.
@@ -106,7 +108,7 @@ pub fn follow(file: &[u8], memory: u64) -> Followed {
     let mut tables = Tables::default();
     let mut manner = Lenient { memory, over: Vec::new() };
     let end = tables.read(file, &mut manner).err();
-    Followed { over: manner.over, end, reading: tables.reading(file) }
+    Followed { over: manner.over, end, sections: tables.sections.clone(), reading: tables.reading(file) }
 }
 
 /// The place of one of the rows that `of` picks.

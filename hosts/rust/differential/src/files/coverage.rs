@@ -3,7 +3,7 @@
 use std::collections::BTreeMap;
 
 use super::types::TAGS;
-use crate::tally::Tally;
+use crate::tally::{Against, Tally};
 
 const CLASSES: [&str; 3] = ["below 13.3", "from 13.3", "from 13.4"];
 const DEBUG_TAGS: u64 = 7;
@@ -45,7 +45,7 @@ impl Coverage {
 
     /// Prints the rarest of each, which has to be there.
     pub fn finish(self) -> Tally {
-        let mut tally = Tally::new("every kind is accepted");
+        let mut tally = Tally::new("every kind is accepted", Against::Demand);
         let mut rarest = u64::MAX;
         for (tag, class) in TAGS.iter().flat_map(|&tag| (0..CLASSES.len()).map(move |class| (tag, class))) {
             let count = self.types.get(&(tag, class)).copied().unwrap_or(0);

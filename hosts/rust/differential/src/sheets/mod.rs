@@ -8,7 +8,7 @@ mod damage;
 mod handed;
 
 use crate::files::{make, most_rows, Dice};
-use crate::tally::{Random, Tally};
+use crate::tally::{Random, Report};
 use calls::Calls;
 use damage::{Wounds, WOUNDS};
 use handed::Handed;
@@ -17,11 +17,11 @@ use handed::Handed;
 const MADE_SHEETS: u64 = 60_000;
 const COPIES: u64 = 2;
 
-pub fn compare(random: &mut Random, add: &mut impl FnMut(Tally)) {
+pub fn compare(random: &mut Random, report: &mut Report) {
     println!("sheets:");
     let (mut calls, mut wounds) = (Calls::new(), Wounds::new());
     let mut dice = Dice::new(random);
-    for i in 0..MADE_SHEETS {
+    for i in 0..report.share_of(MADE_SHEETS) {
         let most = most_rows(&mut dice, i);
         let whole = Handed::of(make(&mut dice, most));
         calls.well_formed(&mut dice, &whole);
@@ -32,6 +32,6 @@ pub fn compare(random: &mut Random, add: &mut impl FnMut(Tally)) {
         }
     }
     apart::compare(&mut dice, &mut calls);
-    calls.finish(add);
-    add(wounds.finish());
+    calls.finish(report);
+    report.demand(wounds.finish());
 }
