@@ -3,27 +3,33 @@
 //!
 //! differential [--small] [--genuine FOLDER] [SEED]
 //! differential --write-answers PATH
+//! differential --keep FROM TO
 
 mod arguments;
 mod containers;
 mod differences;
 mod files;
 mod floats;
+mod genuine;
 mod memory;
 mod readers;
 mod sheets;
+mod sources;
 mod tally;
 mod writers;
 
+use std::io;
+use std::path::Path;
 use std::process::ExitCode;
 
 use arguments::Task;
 use tally::{Random, Report};
 
-fn compare(seed: u64, share: u64) -> ExitCode {
+fn compare(seed: u64, share: u64, genuine: Option<&Path>) -> io::Result<ExitCode> {
     println!("comparison with encoding.rs and decoder.rs, seed {seed}, one of {share} cases");
     let mut random = Random::new(seed);
     let mut report = Report::new(share);
+    sources::compare(&mut report);
     writers::compare(&mut random, &mut report);
     readers::compare(&mut random, &mut report);
     containers::compare(&mut random, &mut report);
@@ -31,27 +37,26 @@ fn compare(seed: u64, share: u64) -> ExitCode {
     files::compare(&mut random, &mut report);
     sheets::compare(&mut random, &mut report);
     differences::compare(&mut report);
-    if report.finish() {
-        ExitCode::SUCCESS
-    } else {
-        ExitCode::FAILURE
+    match genuine {
+        Some(folder) => genuine::compare(folder, &mut random, &mut report)?,
+        None => println!("files of the genuine writer: LEFT OUT"),
+    }
+    Ok(if report.finish() { ExitCode::SUCCESS } else { ExitCode::FAILURE })
+}
+
+fn done(task: Task) -> io::Result<ExitCode> {
+    match task {
+        Task::Compare { seed, share, genuine } => compare(seed, share, genuine.as_deref()),
+        Task::WriteAnswers(path) => files::write_answers(&path).map(|()| ExitCode::SUCCESS),
+        Task::Keep { from, to } => genuine::keep(&from, &to).map(|()| ExitCode::SUCCESS),
     }
 }
 
 fn main() -> ExitCode {
     files::expect_panics();
-    match arguments::task() {
-        Ok(Task::Compare { seed, share }) => compare(seed, share),
-        Ok(Task::WriteAnswers(path)) => match files::write_answers(&path) {
-            Ok(()) => ExitCode::SUCCESS,
-            Err(error) => {
-                eprintln!("{path}: {error}");
-                ExitCode::from(2)
-            }
-        },
-        Err(message) => {
-            eprintln!("{message}");
-            ExitCode::from(2)
-        }
-    }
+    let done = arguments::task().and_then(|task| done(task).map_err(|error| error.to_string()));
+    done.unwrap_or_else(|message| {
+        eprintln!("{message}");
+        ExitCode::from(2)
+    })
 }

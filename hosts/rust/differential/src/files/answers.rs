@@ -3,6 +3,7 @@
 
 use std::collections::BTreeMap;
 use std::fmt::Write;
+use std::path::Path;
 
 use plain::{Reading, Refusal};
 
@@ -128,7 +129,7 @@ fn found_files(dice: &mut Dice) -> Vec<Vec<u8>> {
 }
 
 /// Writes the list anew.
-pub fn write(path: &str) -> std::io::Result<()> {
+pub fn write(path: &Path) -> std::io::Result<()> {
     let mut random = Random::new(SEED);
     let mut dice = Dice::new(&mut random);
     let shortest = smallest::all().into_iter().map(|smallest| smallest.file).collect();

@@ -25,6 +25,9 @@ const REACHABLE: [(u64, &[u64]); 11] = [
 /// The entries of docs/DIFFERENCES.md by which a file can part.
 const ENTRIES: [u8; 10] = [5, 11, 12, 13, 14, 15, 16, 17, 18, 22];
 
+/// So many files at least have to be accepted.
+const LEAST_ACCEPTED: u64 = 200_000;
+
 /// Of a hundred files decoder.rs has to answer all but fewer than so many.
 const MOST_UNANSWERED: u64 = 1;
 
@@ -75,7 +78,7 @@ impl Counts {
     }
 
     /// Prints the counts.
-    pub fn finish(self, least_accepted: u64, report: &mut Report) {
+    pub fn finish(self, report: &mut Report) {
         println!("  files: {}; accepted by both sides, with the same text: {}", self.files, self.accepted);
         println!("  refused, and decoder.rs answered, as number@stage and how often:");
         for (stage, numbers) in REACHABLE {
@@ -92,7 +95,7 @@ impl Counts {
             println!("    {what}: {}, {} bytes", kind.count, kind.shortest);
         }
         report.add(self.most_are_answered());
-        report.demand(self.all_occur(least_accepted));
+        report.demand(self.all_occur());
     }
 
     fn most_are_answered(&self) -> Tally {
@@ -105,9 +108,9 @@ impl Counts {
     }
 
     /// Each refusal that can be given has to have been given, and no other; and each entry has to have been met.
-    fn all_occur(&self, least_accepted: u64) -> Tally {
+    fn all_occur(&self) -> Tally {
         let mut tally = Tally::new("every refusal occurs", Against::Demand);
-        tally.case(self.accepted >= least_accepted, [0; 3], || format!("only {} accepted files", self.accepted));
+        tally.case(self.accepted >= LEAST_ACCEPTED, [0; 3], || format!("only {} accepted files", self.accepted));
         for (stage, numbers) in REACHABLE {
             for &number in numbers {
                 let occurs = self.refused.get(&(stage, number)).is_some_and(|&count| count > 0);

@@ -1,6 +1,6 @@
 //! What the accepted files had: every type tag in every class of versions, every debug tag, and sizes.
 
-use std::collections::BTreeMap;
+use std::collections::{BTreeMap, BTreeSet};
 
 use super::types::TAGS;
 use crate::tally::{Against, Tally};
@@ -41,6 +41,12 @@ impl Coverage {
             self.bytes += file.len() as u64;
             self.longest = self.longest.max(file.len());
         }
+    }
+
+    /// How many tags of types, and of debug attributes, were met.
+    pub fn kinds(&self) -> (usize, usize) {
+        let tags: BTreeSet<u64> = self.types.keys().map(|(tag, _)| *tag).collect();
+        (tags.len(), self.attributes.len())
     }
 
     /// Prints the rarest of each, which has to be there.

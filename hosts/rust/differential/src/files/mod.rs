@@ -42,7 +42,6 @@ const DEBUG: u64 = 3;
 
 /// Files that are made and not damaged; each has to be accepted. Some damaged copies are accepted too.
 const MADE_FILES: u64 = 174_000;
-const LEAST_ACCEPTED: u64 = 200_000;
 const MOST_SHOWN: usize = 1 << 10;
 
 /// A file in hex; of a long one its first bytes.
@@ -58,7 +57,6 @@ pub fn shown(file: &[u8]) -> String {
 /// The comparison of files, one by one.
 pub struct Run {
     calls: Calls,
-    meant: Tally,
     texts: Texts,
     refusals: Tally,
     counts: Counts,
@@ -69,7 +67,6 @@ impl Run {
     pub fn new() -> Self {
         Self {
             calls: Calls::new(),
-            meant: Tally::new("what was meant", Against::Known),
             texts: Texts::new(),
             refusals: Tally::new("refusals of decoder.rs", Against::Rust),
             counts: Counts::default(),
@@ -133,34 +130,33 @@ impl Run {
     }
 
     /// A file that was made from tables gives those tables.
-    fn made(&mut self, dice: &mut Dice, made: &Made) {
+    fn made(&mut self, dice: &mut Dice, made: &Made, meant: &mut Tally) {
         let file = made.plan.lay(dice);
         let tables = self.file(dice, &file).map(|(tables, _)| tables);
         let equal = matches!(&tables, Some((words, pool)) if (words, pool) == (&made.words, &made.pool));
-        self.meant.case(equal, [file.len() as u64, 0, 0], || {
+        meant.case(equal, [file.len() as u64, 0, 0], || {
             format!("{}: {tables:?}, and {:?} and {:?} were meant", shown(&file), made.words, made.pool)
         });
     }
 
     /// A file with faults is refused for the first of them in reading order.
-    fn faulty(&mut self, dice: &mut Dice, made: &Made) {
-        let (file, meant) = faults::faulty(dice, made);
+    fn faulty(&mut self, dice: &mut Dice, made: &Made, meant: &mut Tally) {
+        let (file, first) = faults::faulty(dice, made);
         self.file(dice, &file);
         let answer = boundary::measure(&file);
-        let wanted = Answer::refused_at(meant.number, meant.stage);
-        self.meant.case(answer == wanted, [file.len() as u64, 0, 0], || {
+        let wanted = Answer::refused_at(first.number, first.stage);
+        meant.case(answer == wanted, [file.len() as u64, 0, 0], || {
             format!("{}: {answer:?}, and {wanted:?} was meant", shown(&file))
         });
     }
 
-    /// Prints the tallies, and what this run came upon.
-    fn finish(mut self, report: &mut Report, least_accepted: u64) {
+    /// Prints the tallies. Gives what this run came upon.
+    pub fn finish(mut self, report: &mut Report) -> (Counts, Coverage) {
         self.counts.refused(boundary::FULL, boundary::STAGE_CALL, self.calls.rooms);
         self.counts.refused(boundary::ABSENT, boundary::STAGE_CALL, self.calls.outside);
         self.calls.finish(report);
-        [self.meant, self.texts.finish(), self.refusals].into_iter().for_each(|tally| report.add(tally));
-        self.counts.finish(least_accepted, report);
-        report.demand(self.coverage.finish());
+        [self.texts.finish(), self.refusals].into_iter().for_each(|tally| report.add(tally));
+        (self.counts, self.coverage)
     }
 }
 
@@ -176,22 +172,26 @@ pub fn most_rows(dice: &mut Dice, i: u64) -> u64 {
 pub fn compare(random: &mut Random, report: &mut Report) {
     println!("files:");
     let mut run = Run::new();
+    let mut meant = Tally::new("what was meant", Against::Known);
     let mut dice = Dice::new(random);
     for i in 0..report.share_of(MADE_FILES) {
         let most = most_rows(&mut dice, i);
         let made = made::make(&mut dice, most);
-        run.made(&mut dice, &made);
+        run.made(&mut dice, &made, &mut meant);
         match dice.below(8) {
             0..=3 => {
                 let file = damage::damaged(&mut dice, &made);
                 run.file(&mut dice, &file);
             }
-            4 => run.faulty(&mut dice, &made),
+            4 => run.faulty(&mut dice, &made, &mut meant),
             _ => {}
         }
     }
     apart::compare(&mut dice, &mut run);
-    run.finish(report, report.share_of(LEAST_ACCEPTED));
+    report.add(meant);
+    let (counts, coverage) = run.finish(report);
+    counts.finish(report);
+    report.demand(coverage.finish());
     report.demand(dice.finish());
     report.add(answers::compare());
 }

@@ -139,8 +139,8 @@ impl Calls {
         Some(file)
     }
 
-    /// All calls on a sheet that is well-formed.
-    pub fn well_formed(&mut self, random: &mut Random, handed: &Handed) {
+    /// All calls on a sheet that is well-formed. Gives its file.
+    pub fn well_formed(&mut self, random: &mut Random, handed: &Handed) -> Option<Vec<u8>> {
         let file = self.any(random, handed);
         if let Some(file) = &file {
             self.counts.well_formed += 1;
@@ -149,6 +149,7 @@ impl Calls {
         self.write.case(file.is_some(), [handed.words.len() as u64, 0, 0], || {
             format!("{}: well-formed, and the plain writer refuses it", handed.described())
         });
+        file
     }
 
     /// `image` of a sheet that is refused, and too large to be described.
@@ -171,11 +172,11 @@ impl Calls {
         });
     }
 
-    pub fn finish(self, report: &mut Report) {
+    /// Prints the tallies. Gives what this run came upon.
+    pub fn finish(self, report: &mut Report) -> (Counts, Coverage) {
         [self.image, self.write, self.small, self.back, self.texts.finish()]
             .into_iter()
             .for_each(|tally| report.add(tally));
-        report.demand(self.counts.finish());
-        report.demand(self.coverage.finish());
+        (self.counts, self.coverage)
     }
 }

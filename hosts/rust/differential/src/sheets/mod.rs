@@ -9,9 +9,9 @@ mod handed;
 
 use crate::files::{make, most_rows, Dice};
 use crate::tally::{Random, Report};
-use calls::Calls;
+pub use calls::Calls;
 use damage::{Wounds, WOUNDS};
-use handed::Handed;
+pub use handed::Handed;
 
 /// Sheets that are well-formed, and how many damaged copies are made of each.
 const MADE_SHEETS: u64 = 60_000;
@@ -32,6 +32,8 @@ pub fn compare(random: &mut Random, report: &mut Report) {
         }
     }
     apart::compare(&mut dice, &mut calls);
-    calls.finish(report);
+    let (counts, coverage) = calls.finish(report);
+    report.demand(counts.finish());
+    report.demand(coverage.finish());
     report.demand(wounds.finish());
 }
