@@ -5,7 +5,7 @@
 # make bench: our calls beside encoding.rs, decoder.rs and a plain reader and writer in Rust.
 # make fuzz: tries the calls on arbitrary bytes for a minute (FUZZ_SECONDS=n).
 # make corpus: writes the files that the fuzzer starts from.
-# make answers: writes the list of decoder.rs's answers that the reader tests replay.
+# make answers: writes the list of decoder.rs's answers, and the files of the genuine writer, that the reader tests have.
 
 SHELL := bash
 .SHELLFLAGS := -euo pipefail -c
@@ -78,12 +78,13 @@ cpp-tests: build/all_tests build/tikomuci
 	command/tests $(RUN) build/tikomuci
 
 reader-tests:
-	$(CARGO) test $(IN_RUST) --package boundary --test readers --test views --test files
-	$(CARGO) test $(IN_RUST) --package plain --lib
+	$(CARGO) test $(IN_RUST) --package boundary --test readers --test views --test files --test genuine
+	$(CARGO) test $(IN_RUST) --package plain --package sha256 --lib
 
 comparison:
 ifneq ($(HAS_RUST),)
-	$(CARGO) run $(IN_RUST) --release --package differential -- $(SEED)
+	$(CARGO) run $(IN_RUST) --release --package differential -- $(COMPARED)
+	$(CARGO) run $(IN_RUST) --profile checked --package differential -- --small $(COMPARED)
 else ifeq ($(CI),true)
 	@echo "no Rust source at $(RUST_SOURCE): with CI=true the comparison may not be left out" >&2; exit 1
 else
@@ -100,6 +101,7 @@ endif
 answers: library
 ifneq ($(HAS_RUST),)
 	$(CARGO) run $(IN_RUST) --release --package differential -- --write-answers $(ANSWERS)
+	$(CARGO) run $(IN_RUST) --release --package differential -- --keep $(GENUINE)/fixed hosts/files
 else
 	@echo "no Rust source at $(RUST_SOURCE): there is nobody to ask" >&2; exit 1
 endif
@@ -142,5 +144,6 @@ build/tests/header.o: hosts/cpp/tests/header.c include/tikomuci.h
 	@mkdir -p $(@D)
 	$(CC) $(CFLAGS) -c $< -o $@
 
+include hosts/rust/genuine.mk
 include packaging/install.mk
 include tools/sanitizers.mk

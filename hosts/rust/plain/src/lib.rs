@@ -148,6 +148,7 @@ mod tests {
         assert_eq!([string(file, 0), string(file, 1)], [Ok(28..29), Ok(29..31)]);
         assert_eq!(string(file, 2).map_err(|refusal| (refusal.number, refusal.stage)), Err((ABSENT, STAGE_CALL)));
     }
+
     /// The same, written.
     #[test]
     fn the_whole_case_written() {
@@ -161,5 +162,29 @@ mod tests {
         for (sheet, pool) in [(&sheet[..], &b"ab"[..]), (&sheet[..167], b"abc"), (&sheet[..160], b"abc")] {
             assert_eq!(refused(write(sheet, pool)), Err((SHEET, STAGE_CALL)));
         }
+    }
+
+    /// Where document 01 refuses a file, and where decoder.rs ends, with its number, its stage and why.
+    fn ends(file: &[u8]) -> [Option<(u64, u64, Detail)>; 2] {
+        [read(file).err(), follow(file, 1 << 20).end].map(|end| end.map(|end| (end.number, end.stage, end.detail)))
+    }
+
+    /// A type whose tag is not known, and a function with hints.
+    #[test]
+    fn what_decoder_rs_reads_over() {
+        let file = b"\x7FTileIR\0\x0D\x01\0\0\x05\x09\x01\xCB\xCB\xCB\0\0\0\0\x17\x02\x06\x01\0\0\x04\0\0\0";
+        assert_eq!(ends(file), [Some((8, 5, Detail::TypeEntry)), None]);
+        let followed = follow(file, 1 << 20);
+        assert_eq!(followed.over.iter().map(|over| over.number).collect::<Vec<_>>(), [8, 10]);
+        assert_eq!(followed.reading.words[19..], [1, 23, 0, 0, 4, 0, 0]);
+    }
+
+    /// Counts of globals for which there is not enough memory, and no capacity at all.
+    #[test]
+    fn where_decoder_rs_ends() {
+        let many = b"\x7FTileIR\0\x0D\x01\0\0\x06\x05\xFF\xFF\xFF\xFF\x7F\0";
+        assert_eq!(ends(many), [Some((2, 7, Detail::None)), Some((2, 7, Detail::Memory))]);
+        let most = b"\x7FTileIR\0\x0D\x01\0\0\x06\x09\x80\x80\x80\x80\x80\x80\x80\x80\x08\0";
+        assert_eq!(ends(most), [Some((2, 7, Detail::None)), Some((2, 7, Detail::Capacity))]);
     }
 }
