@@ -46,7 +46,7 @@ fn line(file: &[u8], reading: &Result<Reading, Refusal>) -> Option<String> {
     let (ours, row, rust) = match reading {
         Ok(_) => ("0".to_owned(), None, ask(file)),
         Err(refusal) => {
-            let foretold = foretell(file);
+            let foretold = foretell(file, refusal);
             if let Outcome::Exhausts(_) = foretold.outcome {
                 return None;
             }

@@ -98,12 +98,14 @@ fn text(Followed { end, reading, sections, .. }: &Followed) -> Outcome {
     }
 }
 
-pub fn foretell(file: &[u8]) -> Foretold {
+/// Foretells what becomes of a file that we refuse. The cause that is met first has to be what we refuse it for.
+pub fn foretell(file: &[u8], refusal: &Refusal) -> Foretold {
     let followed = plain::follow(file, MEMORY);
     let outcome = text(&followed);
     let class = match followed.over.first() {
-        Some(over) => Some(read_over(over, &outcome)),
-        None => followed.end.as_ref().and_then(broken),
+        Some(over) if (over.number, over.detail) == (refusal.number, refusal.detail) => Some(read_over(over, &outcome)),
+        Some(_) => None,
+        None => followed.end.as_ref().filter(|end| end.stage == refusal.stage).and_then(broken),
     };
     Foretold { outcome, class }
 }

@@ -91,7 +91,7 @@ impl Run {
     /// decoder.rs does as was foretold: it gives the error with our number, or parts by an entry whose cause was met.
     fn refused(&mut self, file: &[u8], refusal: &Refusal) {
         let size = [file.len() as u64, 0, 0];
-        let foretold = foretell(file);
+        let foretold = foretell(file, refusal);
         if let Outcome::Exhausts(what) = foretold.outcome {
             let exhausts = exhausts(|| drop(ask(file)));
             self.refusals.case(exhausts, size, || {

@@ -148,11 +148,10 @@ pub fn compare(folder: &Path, random: &mut Random, report: &mut Report) -> io::R
     println!("files of the genuine writer:");
     let (fixed, seeded) = (written(&folder.join("fixed"))?, written(&folder.join("seeded"))?);
     report.add(kept(&fixed)?);
-    let files: Vec<Genuine> = fixed.into_iter().chain(seeded).collect();
+    let mut files: Vec<Genuine> = fixed.into_iter().chain(seeded).collect();
+    files.truncate(report.share_of(files.len() as u64) as usize);
     let mut comparison = Comparison::new();
-    for genuine in files.iter().take(report.share_of(files.len() as u64) as usize) {
-        comparison.file(random, genuine);
-    }
+    files.iter().for_each(|genuine| comparison.file(random, genuine));
     let coverage = comparison.finish(report);
     report.demand(enough(&files, &coverage));
     Ok(())
