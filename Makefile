@@ -10,7 +10,7 @@
 # make lint: the layout of every source file, clippy and shellcheck.
 # make setup: installs the tools that are missing; the commands above do it by themselves.
 # make corpus: writes the files that the fuzzer starts from.
-# make answers: writes the list of decoder.rs's answers that the reader tests replay.
+# make answers: writes the list of decoder.rs's answers, and the files of the genuine writer, that the reader tests have.
 # make clean: removes all that was made.
 
 SHELL := bash
@@ -89,13 +89,15 @@ emulated-tests: build/x86-64/all_tests build/x86-64/tikomuci
 	tools/timed "command tests, x86-64" command/tests $(RUN) build/x86-64/tikomuci
 	tools/timed "reader tests, x86-64" $(X86_64_CARGO) $(READER_TESTS)
 
-READER_TESTS := test $(IN_RUST) --package boundary --package plain --lib --tests
+READER_TESTS := test $(IN_RUST) --package boundary --package plain --package sha256 --lib --tests
 reader-tests: $(LIBRARY) | build/setup
 	tools/timed "reader tests" cargo $(READER_TESTS)
 
 comparison: $(X86_64_LIBRARY) | build/setup
 ifneq ($(HAS_RUST),)
-	tools/timed "comparison with the Rust" $(X86_64_CARGO) run $(IN_RUST) --release --package differential -- $(SEED)
+	tools/timed "comparison with the Rust" $(X86_64_CARGO) run $(IN_RUST) --release --package differential -- $(COMPARED)
+	tools/timed "comparison with overflow checks" \
+	    $(X86_64_CARGO) run $(IN_RUST) --profile checked --package differential -- --small $(COMPARED)
 else ifeq ($(CI),true)
 	@echo "no Rust source at $(RUST_SOURCE): with CI=true the comparison may not be left out" >&2; exit 1
 else
@@ -112,6 +114,7 @@ endif
 answers: $(X86_64_LIBRARY) | build/setup
 ifneq ($(HAS_RUST),)
 	$(X86_64_CARGO) run $(IN_RUST) --release --package differential -- --write-answers $(ANSWERS)
+	$(X86_64_CARGO) run $(IN_RUST) --release --package differential -- --keep $(GENUINE)/fixed hosts/files
 else
 	@echo "no Rust source at $(RUST_SOURCE): there is nobody to ask" >&2; exit 1
 endif
@@ -157,6 +160,7 @@ ifneq ($(EMULATED),)
 $(eval $(call programs,build/x86-64,$(X86_64_LIBRARY)))
 endif
 
+include hosts/rust/genuine.mk
 include tools/sanitizers.mk
 include packaging/install.mk
 
