@@ -74,6 +74,7 @@ proofs: build/setup
 verdict: build/setup
 	rm -rf build/proved $(LIBRARY) $(X86_64_LIBRARY) build/module
 	$(ALONE) $(RT) ci 2>&1 | tee build/ci.log
+	tools/edit-costs build/ci.log
 
 command: build/tikomuci
 

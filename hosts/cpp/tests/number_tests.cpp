@@ -252,6 +252,8 @@ void padding() {
     const Wire wrong = {0, 0xCB, 0xCA, 0xCB, 9};
     expect(Reader(wrong, 1).skip_padding(4).outcome() == PADDING, "a wrong padding byte");
     expect(Reader(Bytes(wrong).first(3), 1).skip_padding(4).outcome() == PADDING, "a wrong byte before the end");
+    expect(Reader(wrong, 5).skip_padding(1) && Reader(wrong, 6).skip_padding(1).outcome() == SHORT,
+           "no padding at the end of the data, and past it");
 }
 
 void patches() {

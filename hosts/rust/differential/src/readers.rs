@@ -171,7 +171,10 @@ fn skip_padding(random: &mut Random, cases: u64) -> Tally {
             r.skip_padding(alignment)?;
             Ok(r.pos() as u64 - at)
         });
-        compare_call(&mut tally, data, [at, alignment], boundary::skip_padding(data, at, alignment), Some(rust));
+        // Past the data decoder.rs passes over no bytes where none are due, and ours refuses (23 of docs/DIFFERENCES.md).
+        let parted = rust == Answer::accepted(0, at) && (data.len() as u64) < at;
+        let ours = boundary::skip_padding(data, at, alignment);
+        compare_call(&mut tally, data, [at, alignment], ours, (!parted).then_some(rust));
     };
     for alignment in (0..=20).chain([63, 64, 65, 1 << 32, 1 << 63, u64::MAX]) {
         for len in 0..=24 {
@@ -199,7 +202,7 @@ fn skip_padding(random: &mut Random, cases: u64) -> Tally {
         let alignment = if random.one_in(8) { random.number() } else { random.below(40) };
         compare(&data, at, alignment);
     }
-    tally
+    [tally, past]
 }
 
 /// Past the data decoder.rs would go below 0; the answer wanted is 0.
