@@ -3,11 +3,12 @@ use mathlib.Core.Path.{_≡_, refl, sym, ap, _∙_}
 use Prim.Native.Nat.{ℕ, _+_, _*_, _/_, _≤_, _<_}
 use native.Mathlib.Omega.{arith}
 use mathlib.Core.Logic.{_⊎_}
-use mathlib.Core.List.{List, [], _∷_, _++_}
+use mathlib.Core.List.{List, _++_}
 use lib.ListN.{length}
 use Rattle.exact.specs.Tiling.{join}
 use Rattle.encoding.specs.Out.{put}
 use Rattle.enums.specs.Refusals as refusals
+use Rattle.encoding.proofs.LawsOut.{none-before}
 use Rattle.reading.proofs.LawsShown.{only}
 use Rattle.format.specs.Tables.{Tables}
 use Rattle.format.specs.Read.{Read, accepted, refused, mapRead}
@@ -24,10 +25,6 @@ use Rattle.payloads.specs.declared.FileRead.{FileRead}
 use Rattle.payloads.specs.declared.FileRead.the-variants as file
 use Rattle.payloads.specs.Whole.{fileRead, needOf, Reads, runsOf, PassPost}
 use Rattle.payloads.proofs.LawsSheet.{runs-pool}
-
-none-before : (a s : List ℕ) → length a ≡ 0 → a ++ s ≡ s
-none-before [] s n = refl
-none-before (b ∷ a) s n = absurd (omega arith)
 
 -- What the first pass of `read` has left of no sheet and no pool, a and b, and has answered, m.
 pub record First (l a b : List ℕ) (m : FileRead) : Type 0 where

@@ -6,7 +6,7 @@ use native.Mathlib.Nat.{add-zero}
 use native.Mathlib.Omega.{arith}
 use mathlib.Core.Bool.{true, false, Bool-discrete}
 use mathlib.Core.List.{List, [], _∷_, _++_, map, append-nil}
-use lib.ListN.{length, take, drop, length-append, length-drop}
+use lib.ListN.{length, drop, length-append, length-drop}
 use Rattle.exact.specs.Got.{Got, got, stop, follow}
 use Rattle.exact.specs.Exact.{Parser}
 use Rattle.exact.specs.Basic.{byte, pure}
@@ -22,6 +22,7 @@ use Rattle.exact.proofs.LawsChoice.{choose-yes, choose-no}
 use Rattle.enums.specs.Container.{hintsFlag}
 use Rattle.enums.specs.Refusals as refusals
 use Rattle.enums.specs.declared.VersionClass.{VersionClass}
+use Rattle.enums.specs.Version.{since13·3}
 use Rattle.encoding.proofs.LawsVarint.{digits-some}
 use Rattle.encoding.specs.Out.{put}
 use Rattle.sheet.specs.Store.{putWord, putWords, putRuns}
@@ -29,7 +30,7 @@ use Rattle.sheet.proofs.LawsStore.{putWords-append}
 use Rattle.reading.specs.Numbers.{varintAt, placed}
 use Rattle.reading.proofs.LawsPlaced.{placed-got, placed-stop}
 use Rattle.format.specs.Tables.{Global, Function}
-use Rattle.format.specs.Items.{truth, since13·3}
+use Rattle.format.specs.Items.{truth}
 use Rattle.format.specs.Globals.{GlobalRow, global}
 use Rattle.format.specs.Functions.{Located, apart, FunctionRow, function}
 use Rattle.format.specs.DecodeTables.{fieldAt}
@@ -42,15 +43,6 @@ use Rattle.payloads.specs.declared.answers.TableRead.{TableRead}
 use Rattle.payloads.specs.declared.rows.FuncRow.{FuncRow}
 use Rattle.payloads.specs.Rows.{linkageAt, globalRows, rowOf, bytesIn, locatedIn, bodied, locatedRows, functionRows}
 use Rattle.payloads.proofs.LawsFilling.{Filling, filling-more, filling-fills, fills-upto}
-
--- A flag is 0 or 1.
-pub truth-zero : (v : ℕ) → v ≡ 0 → 0 ≡ truth v
-unfolding truth
-truth-zero v h = sym (choose-yes (ℕ-discrete v 0) 0 1 h)
-
-pub truth-more : (v : ℕ) → ¬ (v ≡ 0) → 1 ≡ truth v
-unfolding truth
-truth-more v h = sym (choose-no (ℕ-discrete v 0) 0 1 h)
 
 -- Visibility and flag below 13.3 ..
 module _ (c : VersionClass) (l : List ℕ) (i : ℕ) where

@@ -13,9 +13,10 @@ use Rattle.exact.specs.Repeat.{times}
 use Rattle.exact.specs.Tiling.{join}
 use Rattle.exact.specs.Entries as table
 use Rattle.enums.specs.declared.VersionClass.{VersionClass}
+use Rattle.enums.specs.Version.{since13·3}
 use Rattle.reading.specs.Numbers.{varintAt}
 use Rattle.format.specs.Tables.{Global, Function}
-use Rattle.format.specs.Items.{truth, since13·3}
+use Rattle.format.specs.Items.{truth}
 use Rattle.format.specs.Functions.{Located, apart}
 use Rattle.format.specs.DecodeTables.{fieldAt}
 use Rattle.format.specs.DecodeRows.{functionAt, functionsAt}
