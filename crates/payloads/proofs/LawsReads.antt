@@ -7,8 +7,8 @@ use mathlib.Core.List.{List, _++_}
 use lib.ListN.{length}
 use Rattle.exact.specs.Tiling.{join}
 use Rattle.encoding.specs.Out.{put}
-use Rattle.enums.specs.Refusals as refusals
 use Rattle.encoding.proofs.LawsOut.{none-before}
+use Rattle.enums.specs.Refusals as refusals
 use Rattle.reading.proofs.LawsShown.{only}
 use Rattle.format.specs.Tables.{Tables}
 use Rattle.format.specs.Read.{Read, accepted, refused, mapRead}
