@@ -21,3 +21,4 @@ pub mod LawsHeld
 pub mod LawsPassed
 pub mod LawsSheet
 pub mod LawsWhole
+pub mod LawsReads
