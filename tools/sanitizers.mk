@@ -47,6 +47,10 @@ build/fuzz/corpus: build/fuzz/corpus.o $(LIBRARY)
 $(FUZZERS): build/fuzzer/%: build/fuzzer/fuzz/%.o $(CLAIMS) build/fuzzer/tikomuci.o
 	$(link) -fsanitize=fuzzer
 
+# The command's branches guide the target that shows what it says.
+build/fuzzer/show: $(filter-out build/fuzzer/command/main.o,$(COMMAND:%=build/fuzzer/%))
+build/fuzzer/command/%: private checks := -O1 $(ADDRESS) -fsanitize=fuzzer-no-link
+
 # By these names the kit's clang calls what the runtime of an older clang has under the plain ones only.
 TSAN = $(shell nm "$$($(cxx) -print-file-name=libclang_rt.tsan-$(MACHINE).a)" 2>/dev/null | sed -n 's/.* T __tsan_//p')
 TSAN_NAMES = $(foreach name,$(filter-out $(TSAN),memcpy memmove memset),-Wl,--defsym=__tsan_$(name)=$(name))

@@ -1,4 +1,4 @@
-// The claims that both fuzz targets make.
+// The claims that several fuzz targets make.
 
 #include "claims.hpp"
 
@@ -7,6 +7,9 @@ namespace fuzz {
 namespace {
 
 constexpr std::uint8_t OTHER = static_cast<std::uint8_t>(~CANARY);
+constexpr std::size_t HEAD = 3;
+constexpr std::size_t POOL_LENGTH_WORD = 4;
+constexpr std::size_t LONGEST_POOL = 4096;
 
 // The sheet's store is no whole words, and the bytes behind its last word stay.
 Stores filled(Bytes file, Size size, std::uint8_t fill) {
@@ -27,6 +30,26 @@ Wire written(Bytes sheet, Bytes pool, std::uint64_t size, std::uint8_t fill) {
 }
 
 }  // namespace
+
+std::optional<std::uint64_t> pool_length(Bytes sheet) {
+    const auto word = tikomuci::Reader(sheet, 8 * POOL_LENGTH_WORD).le_u64();
+    return word ? std::optional(*word) : std::nullopt;
+}
+
+Stores handed(Bytes input) {
+    if (input.size() < HEAD) {
+        return {};
+    }
+    const Bytes rest = input.subspan(HEAD);
+    const std::size_t size = std::min<std::size_t>(rest.size(), tikomuci::Reader(input, 1).le_u16().value_or(0));
+    const auto end = rest.begin() + static_cast<std::ptrdiff_t>(size);
+    Stores stores{Wire(rest.begin(), end), Wire(end, rest.end())};
+    const std::uint64_t length = pool_length(stores.sheet).value_or(0);
+    if ((input[0] & 1) != 0 && length <= LONGEST_POOL) {
+        stores.pool.resize(length, CANARY);
+    }
+    return stores;
+}
 
 Stores read_whole(Bytes file, Size size) {
     const Stores stores = filled(file, size, CANARY);

@@ -6,6 +6,7 @@
 #include <algorithm>
 #include <cstdio>
 #include <cstdlib>
+#include <optional>
 
 #include "../tests/check.hpp"
 #include "tikomuci_tables.hpp"
@@ -60,6 +61,14 @@ struct Stores {
     Wire sheet;
     Wire pool;
 };
+
+// What a sheet says its pool's length is; nothing if it is too short to say so.
+std::optional<std::uint64_t> pool_length(Bytes sheet);
+
+// An input as a sheet and its pool: a byte of flags, two bytes that say how long the sheet is, the sheet and the pool.
+// If bit 0 of the flags is set, the pool gets the length that the sheet says: else few sheets that the fuzzer makes
+// would have their pool.
+Stores handed(Bytes input);
 
 // A file that measure accepted with this size: read agrees, fills stores of that size and no byte more, and refuses
 // stores that are a word or a byte smaller.

@@ -100,7 +100,8 @@ class JsonChecker {
             const bool pair = first >= 0xD800 && first <= 0xDBFF;
             return pair ? take("\\u") && is_low(unit()) : first <= 0xFFFF && !is_low(first);
         }
-        const bool known = !rest_.empty() && std::string_view("\"\\/bfnrt").find(rest_.front()) != std::string_view::npos;
+        const bool known =
+            !rest_.empty() && std::string_view("\"\\/bfnrt").find(rest_.front()) != std::string_view::npos;
         rest_.remove_prefix(known ? 1 : 0);
         return known;
     }

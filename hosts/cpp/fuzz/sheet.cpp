@@ -1,8 +1,5 @@
 // A fuzz target: any words and bytes as a handed sheet and its pool, through image and write, and as rows; and what was
 // written, through measure and read.
-//
-// An input has a byte of flags, two bytes that say how long the sheet is, the sheet and the pool. If bit 0 of the flags
-// is set, the pool gets the length that the sheet says: else few sheets that the fuzzer makes would have their pool.
 
 #include <initializer_list>
 #include <optional>
@@ -17,28 +14,6 @@ using namespace fuzz;
 using tikomuci::Refusal;
 using tikomuci::Sheet;
 using tikomuci::Stage;
-
-constexpr std::size_t HEAD = 3;
-constexpr std::size_t POOL_LENGTH_WORD = 4;
-constexpr std::size_t LONGEST_POOL = 4096;
-
-// What a sheet says its pool's length is; nothing if it is too short to say so.
-std::optional<std::uint64_t> pool_length(Bytes sheet) {
-    const auto word = tikomuci::Reader(sheet, 8 * POOL_LENGTH_WORD).le_u64();
-    return word ? std::optional(*word) : std::nullopt;
-}
-
-Stores handed(Bytes input) {
-    const Bytes rest = input.subspan(HEAD);
-    const std::size_t size = std::min<std::size_t>(rest.size(), tikomuci::Reader(input, 1).le_u16().value_or(0));
-    const auto end = rest.begin() + static_cast<std::ptrdiff_t>(size);
-    Stores stores{Wire(rest.begin(), end), Wire(end, rest.end())};
-    const std::uint64_t length = pool_length(stores.sheet).value_or(0);
-    if ((input[0] & 1) != 0 && length <= LONGEST_POOL) {
-        stores.pool.resize(length, CANARY);
-    }
-    return stores;
-}
 
 // What write has to answer if there is room: image's answer, but that a pool of another length is never the sheet's.
 Outcome wanted_of(const Stores &stores, Outcome measured) {
@@ -95,9 +70,6 @@ void opened(const Stores &stores, bool well_formed, Bytes other) {
 }  // namespace
 
 extern "C" int LLVMFuzzerTestOneInput(const std::uint8_t *data, std::size_t size) {
-    if (size < HEAD) {
-        return 0;
-    }
     const Bytes input(data, size);
     const Stores stores = handed(input);
     const Stores lent = stores;
