@@ -10,7 +10,7 @@
 # make lint: the layout of every source file, clippy and shellcheck.
 # make setup: installs the tools that are missing; the commands above do it by themselves.
 # make corpus: writes the files that the fuzzer starts from.
-# make answers: writes the list of decoder.rs's answers, and the files of the genuine writer, that the reader tests have.
+# make answers: writes decoder.rs's answers, and the files of the genuine writer, that the reader tests have.
 # make clean: removes all that was made.
 
 SHELL := bash
@@ -34,6 +34,8 @@ RUST_SOURCE ?= ../shared/docs/src
 HAS_RUST := $(wildcard $(RUST_SOURCE)/src/bytecode/encoding.rs)
 export TIKOMUCI_RUST_SOURCE := $(abspath $(RUST_SOURCE))
 IN_RUST := --manifest-path hosts/rust/Cargo.toml --locked --quiet
+READER_TESTS := test $(IN_RUST) --package boundary --package plain --package sha256 --lib --tests
+COMPARE := run $(IN_RUST) --package differential
 ANSWERS := hosts/rust/boundary/tests/data/answers.txt
 
 # In the gate a warning is an error; to a user, whose compiler may warn of more, it is none.
@@ -90,15 +92,13 @@ emulated-tests: build/x86-64/all_tests build/x86-64/tikomuci
 	tools/timed "command tests, x86-64" command/tests $(RUN) build/x86-64/tikomuci
 	tools/timed "reader tests, x86-64" $(X86_64_CARGO) $(READER_TESTS)
 
-READER_TESTS := test $(IN_RUST) --package boundary --package plain --package sha256 --lib --tests
 reader-tests: $(LIBRARY) | build/setup
 	tools/timed "reader tests" cargo $(READER_TESTS)
 
 comparison: $(X86_64_LIBRARY) | build/setup
 ifneq ($(HAS_RUST),)
-	tools/timed "comparison with the Rust" $(X86_64_CARGO) run $(IN_RUST) --release --package differential -- $(COMPARED)
-	tools/timed "comparison with overflow checks" \
-	    $(X86_64_CARGO) run $(IN_RUST) --profile checked --package differential -- --small $(COMPARED)
+	tools/timed "comparison with the Rust" $(X86_64_CARGO) $(COMPARE) --release -- $(COMPARED)
+	tools/timed "comparison with overflow checks" $(X86_64_CARGO) $(COMPARE) --profile checked -- --small $(COMPARED)
 else ifeq ($(CI),true)
 	@echo "no Rust source at $(RUST_SOURCE): with CI=true the comparison may not be left out" >&2; exit 1
 else
@@ -114,8 +114,8 @@ endif
 
 answers: $(X86_64_LIBRARY) | build/setup
 ifneq ($(HAS_RUST),)
-	$(X86_64_CARGO) run $(IN_RUST) --release --package differential -- --write-answers $(ANSWERS)
-	$(X86_64_CARGO) run $(IN_RUST) --release --package differential -- --keep $(GENUINE)/fixed hosts/files
+	$(X86_64_CARGO) $(COMPARE) --release -- --write-answers $(ANSWERS)
+	$(X86_64_CARGO) $(COMPARE) --release -- --keep $(GENUINE)/fixed hosts/files
 else
 	@echo "no Rust source at $(RUST_SOURCE): there is nobody to ask" >&2; exit 1
 endif
@@ -142,9 +142,8 @@ $(1)/%.o: hosts/cpp/%.cpp $(1)/flags | build/setup
 	@mkdir -p $$(@D)
 	$$(c++20) $$(only) -MMD -MP -c $$< -o $$@
 
-# What the headers are to other standards is in one program with what they are to C++20.
+# What the headers are to C++17 is in one program with what they are to C++20.
 $(1)/tests/cxx17_tests.o: private only := -std=c++17 -fno-exceptions
-$(1)/tests/cxx23_tests.o: private only := -std=c++2b
 
 $(1)/%.o: hosts/cpp/%.c $(1)/flags | build/setup
 	@mkdir -p $$(@D)
