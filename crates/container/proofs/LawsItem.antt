@@ -1,6 +1,6 @@
 -- A section is its header and its payload: how the code's steps follow the reader of items. Assumes nothing.
 use mathlib.Core.Path.{_≡_, refl, sym, ap, _∙_}
-use Prim.Native.Nat.{ℕ, _+_, _-_, _%_, _<_, _≤_}
+use Prim.Native.Nat.{ℕ, _-_, _%_, _<_, _≤_}
 use native.Mathlib.Omega.{arith}
 use native.Mathlib.Decide.{ℕ-discrete, decLt}
 use mathlib.Core.Option.{Option, none, some}
@@ -13,16 +13,15 @@ use Rattle.exact.specs.Sequence.{bind, mapped}
 use Rattle.exact.specs.Choice.{choose}
 use Rattle.exact.specs.Fixed.{raw, Raw, raw-of}
 use Rattle.exact.specs.Upto.{place}
-use Rattle.exact.proofs.LawsExact.{stop-not-got, got-next}
 use Rattle.exact.proofs.LawsBasic.{pure-exact}
 use Rattle.exact.proofs.LawsSequence.{follow-inv, bind-exact, bind-got, bind-stop}
 use Rattle.exact.proofs.LawsChoice.{choose-yes, choose-no, choose-exact}
 use Rattle.exact.proofs.LawsFixed.{raw-exact}
-use Rattle.exact.proofs.LawsSteps.{byte-at, byte-end}
 use Rattle.enums.specs.Container.{endOfBytecode}
 use Rattle.reading.specs.Numbers.{varintAt, paddingAt, placed}
 use Rattle.reading.proofs.LawsNumbers.{varint-exact, padding-exact}
 use Rattle.reading.proofs.LawsPlaced.{placed-got, placed-stop}
+use Rattle.reading.proofs.LawsInside.{byte-in}
 use Rattle.format.specs.Sections.{Section}
 use Rattle.format.specs.DecodeContainer.{alignmentAt, sectionAt, itemAt}
 use Rattle.container.specs.declared.sections.SectionHeader.{SectionHeader}
@@ -152,25 +151,18 @@ module _ (l : List ℕ) (i : ℕ) where
         header-got q e =
             sym (header-more ∙ bind-got varintAt _ l j n m (sym v) ∙ bind-got (alignmentAt first) _ l m tt q (sym e))
 
-byte-in : (l : List ℕ) (i b j : ℕ) → byte l i ≡ got b j → (i < length l) × (j ≡ i + 1)
-byte-in l i b j e =
-    elim (decLt i (length l)) [
-      | yes h ↦ (h, got-next (sym e ∙ byte-at l i h))
-      | no h ↦ absurd (stop-not-got (sym (byte-end l i (omega arith)) ∙ e))
-    ]
-
 -- A header that was read takes a byte at least.
 pub header-in : (l : List ℕ) (i : ℕ) (h : SectionHeader) (j : ℕ) → sectionHeaderAt l i ≡ got h j →
     (i < length l) × (i < j)
 unfolding sectionHeaderAt bind alignmentAt
 header-in l i h j e =
     let (first, m, b, f) = follow-inv (byte l i) _ h j e in
-    let (inside, next) = byte-in l i first m b in
+    let (next, inside) = byte-in l i first m (sym b) in
     let aligned = choose-exact (decLt first 128) (pure-exact tt) (bind-exact varint-exact padding-exact) in
     let rest =
     choose-exact (ℕ-discrete (first % 128) endOfBytecode) (pure-exact (header l first 0))
     (bind-exact varint-exact (λ n. bind-exact aligned (λ u. pure-exact (header l first n)))) in
-    (inside, omega (arith, next, rest .sound l m h j f .next))
+    (omega (arith, next, inside), omega (arith, next, rest .sound l m h j f .next))
 
 run-length : {n i : ℕ} {bs v : List ℕ} → Raw n i bs v → length v ≡ n
 run-length (raw-of e) = e
