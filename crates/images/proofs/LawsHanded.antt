@@ -1,11 +1,11 @@
 -- What is answered of a handed sheet, by what the judge says of it. Assumes nothing.
 use mathlib.Core.Path.{_≡_, refl, sym, ap, _∙_, subst}
-use Prim.Native.Nat.{ℕ, zero, suc, _^_, _<_}
+use Prim.Native.Nat.{ℕ, _^_, _<_}
 use native.Mathlib.Omega.{arith}
 use native.Mathlib.Decide.{ℕ-discrete}
-use mathlib.Core.List.{List, [], _∷_}
+use mathlib.Core.List.{List}
 use mathlib.Core.Option.{Option, none, some}
-use lib.ListN.{length, getD, replicate, length-replicate}
+use lib.ListN.{length, replicate, length-replicate}
 use Rattle.exact.specs.Choice.{choose}
 use Rattle.exact.proofs.LawsChoice.{choose-yes, choose-no}
 use Rattle.enums.specs.Refusals as refusals
@@ -17,6 +17,7 @@ use Rattle.format.specs.Sound.{All, Fits, classIn}
 use Rattle.format.specs.Judge.{cutting, withPool, tablesOf}
 use Rattle.format.specs.Tests.{both?, all?, fits?}
 use Rattle.format.specs.Write.{refuses, imaged, blank}
+use Rattle.format.proofs.LawsSoundItems.{zeros-fit}
 use Rattle.format.proofs.Sheets.{sheet-judged, judged-pool}
 use Rattle.sheet.specs.Store.{wordsIn}
 use Rattle.sheet.proofs.LawsWords.{length-wordsIn}
@@ -28,16 +29,6 @@ use Rattle.judge.proofs.LawsPlaced.{judged-words, Passes, passed-of}
 use Rattle.images.specs.Written.{imageSize, lengthOf, inRoom, withImage, Told, ImageTold, JudgedWritten}
 use Rattle.images.specs.declared.Imaged.{Imaged}
 use Rattle.images.specs.declared.Imaged.the-variants as told
-
--- What the type says of a slice's elements.
-pub known-bytes : (l : List ℕ) → ((i : ℕ) → getD l i 0 < 256) → All (Fits 8) l
-known-bytes [] h = tt
-known-bytes (x ∷ l) h = (h 0, known-bytes l (λ i. h (suc i)))
-
--- A pool of zeros.
-pub zeros-fit : (n : ℕ) → All (Fits 8) (replicate n 0)
-zeros-fit zero = tt
-zeros-fit (suc n) = (omega arith, zeros-fit n)
 
 -- What is refused has no frame.
 stopped-none : (o : Option Frame) → notSound ≡ summary o → o ≡ none

@@ -7,7 +7,7 @@ use native.Mathlib.Nat.{zero-add}
 use native.Mathlib.Decide.{decLe}
 use native.Mathlib.Omega.{arith}
 use mathlib.Core.List.{List, [], append-nil}
-use mathlib.Core.Option.{some}
+use mathlib.Core.Option.{some, Option·some-injective}
 use lib.ListN.{length}
 use Rattle.exact.proofs.LawsChoice.{choose-yes, choose-no}
 use Rattle.enums.specs.Refusals as refusals
@@ -89,9 +89,6 @@ module _ {s : List ℕ} {j : Judged} {b : Bool} (o : Over s j) (x : FitTold (j .
   unfolding lengthOf
   told-start e = record { each = λ t h. ap lengthOf (sym (start-large t (x .each t (h .holds) .fails e))) }
 
-some-same : {A : Type 0} {x y : A} → some x ≡ some y → x ≡ y
-some-same e = cc
-
 refused-as : (n m : ℕ) (out : List ℕ) (w : Writing) → notWritten n ≡ lengthOf w → (notWritten n ≡ inRoom m w) × (out ≡ withImage out w)
 unfolding lengthOf inRoom withImage
 refused-as n m out (writes bs) e = let z : _≡_ {A = ℕ} 0 1 = cc in absurd (omega (arith, z))
@@ -114,7 +111,7 @@ unfolding lengthOf inRoom withImage
 fine-as size out out' t (writes bs) q e h f =
     let k : size ≡ length bs = cc in
     let j = imaged-inv (some t) bs q in
-    let k' : t ≡ j .tables = some-same (j .there) in
+    let k' : t ≡ j .tables = Option·some-injective _ _ (j .there) in
     let i : bs ≡ image t = j .whole ∙ ap image (sym k') in
     let u : length (image t) ≤ mostBytes = rw k' (j .fits) in
     let v : length (image t) < 2 ^ 64 = omega arith in

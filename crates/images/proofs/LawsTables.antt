@@ -24,7 +24,7 @@ use Rattle.images.specs.declared.fields.Pen.{Pen}
 use Rattle.images.specs.declared.rows.Row.{Row}
 use Rattle.images.specs.declared.rows.Row.the-variants as row
 use Rattle.images.specs.declared.rows.Table.{Table}
-use Rattle.images.proofs.LawsPut.{no-length, puts-then, wrote-then, wrote-nil, wrote-nowhere, lies-front, lies-back, lies-first}
+use Rattle.images.proofs.LawsPut.{puts-then, wrote-then, wrote-nil, wrote-nowhere, lies-front, lies-back, lies-first}
 use Rattle.images.proofs.LawsFields.{copied-then, copied-put, copied-ready, copied-as}
 use Rattle.images.proofs.LawsRows.{placed-fits}
 
@@ -48,10 +48,6 @@ count-put {n} {a} {base} {at} {mid = mid} {out' = out'} {next = next} {place = p
                 puts-then p (z .puts f);
           };
     }
-
--- An output of no bytes in front of another changes nothing.
-pub in-front : (l out : List ℕ) → length l ≡ 0 → l ++ out ≡ out
-in-front l out e = ap (λ x. x ++ out) (no-length l e)
 
 -- An entry that was put into an output of no bytes is that long.
 pub entry-next : {c : VersionClass} {k : Row} {s pool : List ℕ} {word start start' : ℕ} {z : Pen} {l out : List ℕ} →

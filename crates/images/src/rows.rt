@@ -1,11 +1,8 @@
 // The rows of the tables: each becomes its bytes of the file, and the rows of a table stand one behind the other.
-ghost use mathlib.Core.Path.{_≡_};
-ghost use lib.ListN.{getD};
-ghost use Prim.Native.Nat.{ℕ, _≤_};
+ghost use Prim.Native.Nat.{ℕ};
 ghost use mathlib.Core.List.{List, map};
 ghost use Rattle.exact.specs.Tiling.{join};
 ghost use Rattle.enums.specs.declared.VersionClass.{VersionClass};
-ghost use Rattle.format.specs.Debug.{fieldCounts};
 ghost use Rattle.images.specs.declared.rows.Row.the-variants as kinds;
 ghost use Rattle.images.specs.Rows.{RunTaken, rowBytes, RowCopied, RowsPut};
 use crate::fields::Number;
@@ -15,6 +12,7 @@ use crate::fields::copy_numbers;
 use crate::fields::since_13_3;
 use crate::put::put_pool;
 use crate::types::put_type;
+use enums::DebugTag;
 use enums::VersionClass;
 
 // The kinds of rows. Strings and constants are runs of the pool.
@@ -34,19 +32,6 @@ pub struct Table {
     pub word: usize,
     pub count: u64,
     pub width: usize,
-}
-
-// The number of varints behind each debug tag; the other fields of the sheet's six are 0 and are not written.
-const FIELD_COUNTS: [u64; 7] = [0, 1, 2, 4, 4, 6, 2];
-
-fn field_count(tag: u64) -> u64
-    ensures { λ r. ⌜ r ≡ getD fieldCounts tag 0 ⌝ }
-    ensures { λ r. ⌜ r ≤ 6 ⌝ }
-{
-    if tag < 7 {
-        return FIELD_COUNTS[tag as usize];
-    }
-    0
 }
 
 // Puts the next `len` bytes of the pool.
@@ -96,7 +81,7 @@ fn put_function(sheet: &[u8], pool: &[u8], out: &mut [u8], pen: Pen) -> Pen
 fn put_attribute(sheet: &[u8], out: &mut [u8], pen: Pen) -> Pen
     ensures { λ r. ⌜ ((c : VersionClass) (pool : List ℕ) → RowCopied c kinds.Attribute (now (sheet .entry)) pool pen (now (out .entry)) (now (out .exit)) r) ⌝ }
 {
-    let count = field_count(sheet::word_at(sheet, pen.word));
+    let count = DebugTag::field_count(sheet::word_at(sheet, pen.word));
     let tag = copy_number(sheet, Number::Byte, out, pen);
     let fields = copy_numbers(sheet, Number::Varint, count, out, tag);
     copy_numbers(sheet, Number::Absent, 6 - count, out, fields)

@@ -5,7 +5,7 @@ use Prim.Native.Nat.{ℕ, _/_, _%_, _≤_, _<_}
 use native.Mathlib.Omega.{arith}
 use native.Mathlib.Decide.{decLe}
 use mathlib.Core.List.{List}
-use mathlib.Core.Option.{Option, none, some}
+use mathlib.Core.Option.{Option, none, some, Option·some-injective}
 use lib.ListN.{length, replicate, length-replicate}
 use Rattle.exact.specs.Choice.{choose}
 use Rattle.exact.proofs.LawsChoice.{choose-yes}
@@ -20,9 +20,10 @@ use Rattle.format.specs.Image.{image}
 use Rattle.format.specs.Write.{Writing, writes, refuses, mostWords, imaged, blank}
 use Rattle.format.proofs.LawsFrame.{judged-exact}
 use Rattle.format.proofs.LawsPool.{frame-cutting}
+use Rattle.format.proofs.LawsSoundItems.{zeros-fit}
 use Rattle.format.proofs.LawsImageLength.{image-length}
 use Rattle.format.proofs.Sheets.{sheet-judged, judged-pool}
-use Rattle.format.proofs.Writes.{imaged-inv}
+use Rattle.format.proofs.Writes.{imaged-inv, refuses-not-writes}
 use Rattle.sheet.specs.Store.{wordsIn}
 use Rattle.judge.specs.Judge.{judgedBytes}
 use Rattle.judge.proofs.LawsJudge.{whole-words}
@@ -30,10 +31,10 @@ use Rattle.judge.proofs.LawsPlaced.{judged-words}
 use Rattle.images.specs.Written.{imageSize, lengthOf}
 use Rattle.images.specs.declared.Imaged.{Imaged}
 use Rattle.images.specs.declared.Imaged.the-variants as told
-use Rattle.images.proofs.LawsHanded.{zeros-fit, size-same}
+use Rattle.images.proofs.LawsHanded.{size-same}
 use Rattle.images.proofs.LawsJudged.{image-fine}
 use Rattle.writer.specs.Written.{writingAlone, Sized, ImagePost}
-use Rattle.writer.proofs.LawsWriting.{refuses-not-writes, accepted-not-refused, accepted-same, alone-within}
+use Rattle.writer.proofs.LawsWriting.{accepted-not-refused, accepted-same, alone-within}
 
 -- A frame's tables with a pool of zeros.
 abbrev zeroed : Frame → Tables
@@ -47,12 +48,6 @@ tables-frame : (s : List ℕ) (t : Tables) → Sound t → wordsIn s ≡ sheetOf
 unfolding sheetOf
 tables-frame s t h e = judged-exact (wordsIn s) (frameOf t) .1 (e, subst (All (Fits 64)) (sym e) (h .words), h .frame)
 
-some-same : {A : Type 0} {x y : A} → some x ≡ some y → x ≡ y
-some-same e = cc
-
-none-not-some : {A : Type 0} {x : A} → none ≡ some x → ⊥
-none-not-some e = let z : _≡_ {A = ℕ} 0 1 = cc in omega arith
-
 -- The sheet of which an image was measured.
 sized-frame : (s bs : List ℕ) (r : Frame) → judgedBytes s ≡ some r → imaged (some (zeroed r)) ≡ writes bs → Sized s (length bs)
 sized-frame s bs r e q =
@@ -60,14 +55,14 @@ sized-frame s bs r e q =
     let z : List ℕ = replicate (poolLength r) 0 in
     let j = sheet-judged (wordsIn s) z (zeroed r) .0 (judged-pool (wordsIn s) z r w (length-replicate {A = ℕ} (poolLength r) 0) (zeros-fit (poolLength r))) in
     let i = imaged-inv (some (zeroed r)) bs q in
-    let b : bs ≡ image (zeroed r) = i .whole ∙ ap image (sym (some-same (i .there))) in
+    let b : bs ≡ image (zeroed r) = i .whole ∙ ap image (sym (Option·some-injective _ _ (i .there))) in
     record {
       tables = zeroed r;
       sound = j .2;
       its-sheet = j .0;
       size =
           λ u h f.
-          let k : r ≡ frameOf u = some-same (sym w ∙ tables-frame s u h f) in
+          let k : r ≡ frameOf u = Option·some-injective _ _ (sym w ∙ tables-frame s u h f) in
           ap length b ∙ image-length (zeroed r) u (zeroed-frame r ∙ k);
     }
 

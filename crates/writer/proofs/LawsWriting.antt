@@ -21,7 +21,7 @@ use Rattle.format.specs.Judge.{judged, withPool, tablesOf}
 use Rattle.format.specs.Image.{image}
 use Rattle.format.specs.Write.{Writing, writes, refuses, mostWords, imaged, written, blank}
 use Rattle.format.proofs.Images.{image-explained, image-one}
-use Rattle.format.proofs.Writes.{Wrote, written-sound, written-complete}
+use Rattle.format.proofs.Writes.{written-sound, written-complete, refuses-not-writes}
 use Rattle.sheet.specs.Store.{wordsIn}
 use Rattle.sheet.proofs.LawsWords.{length-wordsIn}
 use Rattle.judge.specs.Judge.{judgedBytes}
@@ -61,9 +61,6 @@ alone-words s h = choose-no (decLe (length (wordsIn s)) mostWords) _ _ (omega (a
 pub alone-within : (s : List ℕ) → length s / 8 ≤ mostWords → writingAlone s ≡ imaged (blank (judgedBytes s))
 unfolding writingAlone
 alone-within s h = choose-yes (decLe (length (wordsIn s)) mostWords) _ _ (omega (arith, length-wordsIn s))
-
-pub refuses-not-writes : {c : ℕ} {bs : List ℕ} → refuses c ≡ writes bs → ⊥
-refuses-not-writes e = let z : _≡_ {A = ℕ} 0 1 = cc in omega arith
 
 pub accepted-not-refused : {n c k i : ℕ} → _≡_ {A = Read ℕ} (accepted n) (refused c k i) → ⊥
 accepted-not-refused e = let z : _≡_ {A = ℕ} 0 1 = cc in omega arith

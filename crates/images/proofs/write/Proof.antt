@@ -2,7 +2,8 @@
 use Prim.Native.Nat.{_^_, _<_}
 use native.Mathlib.Omega.{arith}
 use lib.ListN.{length}
-use Rattle.images.proofs.LawsHanded.{known-bytes, write-stopped, write-other, write-passed}
+use Rattle.format.proofs.LawsSoundItems.{known-bytes}
+use Rattle.images.proofs.LawsHanded.{write-stopped, write-other, write-passed}
 use borrow.Author.Needs.{needs}
 use Rattle.images.proofs.write.Statement.{statement}
 use Rattle.images.proofs.write.Tie as tie

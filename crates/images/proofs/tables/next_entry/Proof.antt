@@ -1,6 +1,7 @@
 -- `next_entry` puts an entry into an output of no bytes. Assumes nothing.
 use mathlib.Core.Path.{refl}
-use Rattle.images.proofs.LawsTables.{in-front, entry-next}
+use Rattle.encoding.proofs.LawsOut.{none-before}
+use Rattle.images.proofs.LawsTables.{entry-next}
 use borrow.Author.Needs.{needs}
 use Rattle.images.proofs.tables.next_entry.Statement.{statement}
 use Rattle.images.proofs.tables.next_entry.Tie as tie
@@ -25,7 +26,7 @@ same-length c = search needs
 
 returns : tie.Need-returns
 returns c =
-    (entry-next (c .before .before .before .before .put-row .ensures) refl (c .wrapping-add-usize .ensures), in-front (c .before .before .before .before .put-row .last .1 .1 .1 .1 .0) _ (c .before .before .before .out .given .0))
+    (entry-next (c .before .before .before .before .put-row .ensures) refl (c .wrapping-add-usize .ensures), none-before (c .before .before .before .before .put-row .last .1 .1 .1 .1 .0) _ (c .before .before .before .out .given .0))
 
 pub next-entry-spec : {M : Type 1} → statement M
 next-entry-spec =
