@@ -221,6 +221,12 @@ impl DebugTag {
     }
 }
 
+// Starts counted in ids and starts counted in bytes are two units: a position among the ids of the Debug section ..
+pub struct IdPosition(pub usize);
+
+// .. and a position in the data behind a table's starts.
+pub struct BytePosition(pub usize);
+
 // A refusal: document 01's number.
 pub struct Refusal(pub u8);
 

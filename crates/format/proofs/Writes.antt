@@ -28,14 +28,14 @@ pub refuses-not-writes : {c : ℕ} {bs : List ℕ} → refuses c ≡ writes bs �
 refuses-not-writes e = let z : _≡_ {A = ℕ} 0 1 = cc in omega arith
 
 -- What is written is the image of tables whose starts and image fit.
-record Imaged (o : Option Tables) (bs : List ℕ) : Type 0 where
-  tables : Tables
-  there : o ≡ some tables
-  starts : Starts32 tables
-  fits : length (image tables) ≤ mostBytes
-  whole : bs ≡ image tables
+pub record Imaged (o : Option Tables) (bs : List ℕ) : Type 0 where
+  pub tables : Tables
+  pub there : o ≡ some tables
+  pub starts : Starts32 tables
+  pub fits : length (image tables) ≤ mostBytes
+  pub whole : bs ≡ image tables
 
-imaged-inv : (o : Option Tables) (bs : List ℕ) → imaged o ≡ writes bs → Imaged o bs
+pub imaged-inv : (o : Option Tables) (bs : List ℕ) → imaged o ≡ writes bs → Imaged o bs
 unfolding imaged choose
 imaged-inv none bs e = absurd (refuses-not-writes e)
 imaged-inv (some t) bs e = go (starts32? t) (decLe (length (image t)) mostBytes) e
@@ -92,7 +92,8 @@ pub data Alike : Writing → Writing → Type 0 where
   as-long : {bs cs : List ℕ} → length bs ≡ length cs → Alike (writes bs) (writes cs)
   refused-too : {c : ℕ} → Alike (refuses c) (refuses c)
 
-imaged-alike : (t u : Tables) → frameOf t ≡ frameOf u → Alike (imaged (some t)) (imaged (some u))
+-- Tables with one frame are written alike.
+pub imaged-alike : (t u : Tables) → frameOf t ≡ frameOf u → Alike (imaged (some t)) (imaged (some u))
 unfolding imaged choose
 imaged-alike t u e = go (starts32? t) (starts32? u) (decLe (length (image t)) mostBytes) (decLe (length (image u)) mostBytes)
   where

@@ -25,7 +25,7 @@ lent-back a b (inr e) x = inr (puts-none e x)
 
 module _ (a ra x b rb y : List ℕ) {s pool : List ℕ} {p : Pen} {out : List ℕ} (h : Ready (a ++ b) (ra ++ rb) (x ++ y) s pool p out) where
   -- What is ready for two steps is ready for the first ..
-  ready-front : Ready a ra x s pool p out
+  pub ready-front : Ready a ra x s pool p out
   ready-front =
       let n = length-append a b in
       let m = length-append ra rb in
@@ -42,7 +42,7 @@ module _ (a ra x b rb y : List ℕ) {s pool : List ℕ} {p : Pen} {out : List �
       }
 
   -- .. and, after it, for the second.
-  ready-back : {mid : List ℕ} {q : Pen} → Moved a ra x p out mid q → Ready b rb y s pool q mid
+  pub ready-back : {mid : List ℕ} {q : Pen} → Moved a ra x p out mid q → Ready b rb y s pool q mid
   ready-back {mid} {q} v =
       let n = length-append a b in
       let m = length-append ra rb in
@@ -61,7 +61,7 @@ module _ (a ra x b rb y : List ℕ) {s pool : List ℕ} {p : Pen} {out : List �
         bytes-fit = omega arith;
       }
 
-moved-then : {a ra x b rb y : List ℕ} {p q r : Pen} {out mid out' : List ℕ} → Moved a ra x p out mid q →
+pub moved-then : {a ra x b rb y : List ℕ} {p q r : Pen} {out mid out' : List ℕ} → Moved a ra x p out mid q →
     Moved b rb y q mid out' r → Moved (a ++ b) (ra ++ rb) (x ++ y) p out out' r
 moved-then {a} {ra} {x} {b} {rb} {y} v w =
     let n = length-append a b in
@@ -110,16 +110,25 @@ copied-put {p = p} x =
           };
     }
 
--- What is copied may be told by what the sheet has.
+-- What is copied may be told by what is ready, and by what the sheet has.
+pub copied-ready : {ws run bs s pool : List ℕ} {p q : Pen} {out out' : List ℕ} →
+    (Ready ws run bs s pool p out → Copied ws run bs s pool p out out' q) → Copied ws run bs s pool p out out' q
+copied-ready f = record { moved = λ h. f h .moved h }
+
 pub copied-knowing : {ws run bs s pool : List ℕ} {p q : Pen} {out out' : List ℕ} →
     (Lies (wordsIn s) (p .word) ws → Copied ws run bs s pool p out out' q) → Copied ws run bs s pool p out out' q
-copied-knowing f = record { moved = λ h. f (h .words) .moved h }
+copied-knowing f = copied-ready (λ h. f (h .words))
 
 -- The same by other names.
 pub copied-as : {ws run bs bs' s pool : List ℕ} {p q : Pen} {out out' : List ℕ} → bs ≡ bs' →
     Copied ws run bs s pool p out out' q → Copied ws run bs' s pool p out out' q
 copied-as {ws} {run} {s = s} {pool = pool} {p = p} {q = q} {out = out} {out' = out'} e f =
     subst (λ l. Copied ws run l s pool p out out' q) e f
+
+pub copied-runs : {ws run run' bs s pool : List ℕ} {p q : Pen} {out out' : List ℕ} → run ≡ run' →
+    Copied ws run bs s pool p out out' q → Copied ws run' bs s pool p out out' q
+copied-runs {ws} {bs = bs} {s = s} {pool = pool} {p = p} {q = q} {out = out} {out' = out'} e f =
+    subst (λ l. Copied ws l bs s pool p out out' q) e f
 
 -- The next word was read and put.
 pub number-copied : (k : Number) (s : List ℕ) (p : Pen) (out out' : List ℕ) (v w next : ℕ) →

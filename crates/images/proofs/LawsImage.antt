@@ -1,32 +1,34 @@
 -- Sections one after the other, between the header and the end id, are the image. Assumes nothing.
 use mathlib.Core.Path.{_≡_, refl, sym, ap, ap₂, _∙_, subst}
 use mathlib.Core.Logic.{inr}
-use mathlib.Core.Bool.{Bool, true, false, cond, _||_}
-use Prim.Native.Nat.{ℕ, zero, suc, _+_, _-_, _%_, _^_, _≤_, _<_}
+use mathlib.Core.Bool.{Bool, true, false, cond, _||_, true≢false}
+use Prim.Native.Nat.{ℕ, zero, suc, _+_, _%_, _^_, _≤_, _<_}
 use native.Mathlib.Nat.{zero-add, add-zero, mod-eq-of-lt}
 use native.Mathlib.Omega.{arith}
-use mathlib.Core.List.{List, [], _∷_, _++_}
+use mathlib.Core.List.{List, [], _∷_, _++_, map, append-nil}
 use mathlib.Core.Option.{Option, none, some}
 use native.Mathlib.Numerals.{add-one}
 use lib.ListN.{length, getD, drop, length-append, length-drop}
 use lib.Seq.{drop-cons}
 use Rattle.exact.specs.Fixed.{bytesOf}
+use Rattle.exact.specs.Tiling.{join}
 use Rattle.enums.specs.Container.{magic, endOfBytecode}
-use Rattle.enums.specs.Version.{classOf}
 use Rattle.enums.specs.declared.VersionClass.{VersionClass}
 use Rattle.encoding.specs.Varint.{spelling}
 use Rattle.format.specs.Tables.{Tables}
-use Rattle.format.specs.Explains.{class}
-use Rattle.format.specs.Sheet.{frameOf, producerWord, wordsOf, sheetOf}
+use Rattle.format.specs.Sheet.{frameOf, producerWord, wordsOf, sheetOf, poolOf}
 use Rattle.format.specs.Image.{Part, alignmentBytes, partBytes, partsFrom, hasRows, stringPart, isNamed, producerPart, typePart, constantPart, globalPart, functionPart, debugPart, partsOf, headerBytes, image}
 use Rattle.sheet.specs.Store.{wordsIn}
-use Rattle.images.specs.Put.{Puts, Wrote}
-use Rattle.images.specs.Sections.{Holds, partIn, PayloadPut}
-use Rattle.images.specs.Images.{isSome, ClassOf, Presence, Opens, AlignmentPut, sectionBytes, SectionPut, HeaderPut, ImagePut}
+use Rattle.images.specs.Put.{Wrote}
+use Rattle.images.specs.Fields.{Copied}
+use Rattle.images.specs.Tables.{CountPut}
+use Rattle.images.specs.Sections.{Holds, partIn, runsIn, PayloadPut}
+use Rattle.images.specs.Images.{isSome, alignmentOf, Presence, Opens, Aligned, AlignmentPut, sectionBytes, SectionPut, HeaderPut, ImagePut}
+use Rattle.images.specs.declared.fields.Pen.{Pen}
 use Rattle.images.specs.declared.sections.Section.{Section}
 use Rattle.images.specs.declared.sections.Section.the-variants as section
-use Rattle.images.proofs.LawsPut.{no-length, puts-then, wrote-nil, wrote-then, wrote-as, wrote-nowhere}
-use Rattle.images.proofs.LawsTables.{lent-on}
+use Rattle.images.proofs.LawsPut.{no-length, wrote-nil, wrote-then, wrote-as, wrote-nowhere}
+use Rattle.images.proofs.LawsFields.{ready-front, copied-then, copied-nil, copied-put, copied-ready, copied-as, copied-runs}
 use Rattle.images.proofs.LawsSheet.{
   strings-placed,
   types-placed,
@@ -114,95 +116,122 @@ module _ {s : List ℕ} {r : Bool} where
             ap (λ b. b || hasRows (t .attributes)) (sym k ∙ rows-there s t 18 (t .lists) e w (lists-placed t .number));
       }
 
-pub payload-measured : {k : Section} {c : VersionClass} {s pool : List ℕ} {r : ℕ} (l : List ℕ) → length l ≡ 0 →
-    PayloadPut k c s pool 0 [] l r → PayloadPut k c s pool 0 [] [] r
-payload-measured {k} {c} {s} {pool} {r} l e x = subst (λ o. PayloadPut k c s pool 0 [] o r) (no-length l e) x
+-- An alignment, if there is one.
+pub alignment-none : {a : ℕ} (at : ℕ) (out : List ℕ) → a ≡ 0 → AlignmentPut a at out out at
+unfolding alignmentOf alignmentBytes
+alignment-none at out e = rw e (wrote-nil at out)
 
--- The tables are held by what is lent on.
-holds-on : {t : Tables} {s pool out mid bs : List ℕ} {at r : ℕ} → Holds t s pool out → Puts bs at out mid r → Holds t s pool mid
-holds-on h p =
-    record {
-      words = h .words;
-      sound = h .sound;
-      lent = lent-on (h .lent) p;
-      words-fit = h .words-fit;
-      pool-fits = h .pool-fits;
-    }
+pub alignment-some : (a : ℕ) {at r : ℕ} {out out' : List ℕ} → ¬ (a ≡ 0) → CountPut a a 0 at out out' r → AlignmentPut a at out out' r
+unfolding alignmentOf alignmentBytes
+alignment-some zero n x = absurd (n refl)
+alignment-some (suc a) {at} n x = x .each at (zero-add at)
 
-pub holds-none : {t : Tables} {s pool out : List ℕ} → Holds t s pool out → Holds t s pool []
-holds-none h =
-    record {
-      words = h .words;
-      sound = h .sound;
-      lent = inr refl;
-      words-fit = h .words-fit;
-      pool-fits = h .pool-fits;
-    }
+-- A payload that was measured: its length, and where the pool goes on.
+pub payload-measured : {k : Section} {c : VersionClass} {s pool : List ℕ} {p r : Pen} (l : List ℕ) → length l ≡ 0 →
+    PayloadPut k c s pool p [] l r → PayloadPut k c s pool p [] [] r
+payload-measured {k} {c} {s} {pool} {p} {r} l e x = subst (λ o. PayloadPut k c s pool p [] o r) (no-length l e) x
 
-module _ {k : Section} {c : VersionClass} {s pool : List ℕ} {at n1 n2 n3 next size b0 : ℕ} {there : Bool} {out m1 m2 m3 out' : List ℕ}
-    (g : Presence k s there) (gy : there ≡ true) (w : PayloadPut k c s pool 0 [] [] size) (o : Opens k b0)
-    (x : Wrote (b0 ∷ []) at out m1 n1) (y : Wrote (spelling size) n1 m1 m2 n2) (a : AlignmentPut k n2 m2 m3 n3)
-    (z : PayloadPut k c s pool n3 m3 out' next) where
-  section-each : (t : Tables) → c ≡ class (t .version) → Holds t s pool out → at + length (sectionBytes at (partIn k t)) < 2 ^ 64 →
-      Puts (sectionBytes at (partIn k t)) at out out' next
-  unfolding sectionBytes partBytes
-  section-each t ec h fb =
-      let p = partIn k t in
-      let sp = spelling (length (p .payload)) in
-      let al = alignmentBytes (p .alignment) (at + 1 + length sp) in
-      let e : p .present ≡ true = sym (g .each t (h .words) (h .sound)) ∙ gy in
-      let q : sectionBytes at p ≡ partBytes at p = ap (λ b. cond b (partBytes at p) []) e in
-      let lq = ap length q in
-      let l1 = length-append sp (al ++ p .payload) in
-      let l2 = length-append al (p .payload) in
-      let v = w .each t ec (holds-none h) (omega arith) in
-      let m : size ≡ length (p .payload) = v .place ∙ zero-add (length (p .payload)) in
-      let y' : Wrote sp n1 m1 m2 n2 = subst (λ j. Wrote (spelling j) n1 m1 m2 n2) m y in
-      let x' = subst (λ b. Wrote (b ∷ []) at out m1 n1) (o .each t) x in
-      let p1 = x' .puts (omega arith) in
-      let g1 = p1 .place in
-      let p2 = y' .puts (omega arith) in
-      let g2 = p2 .place in
-      let e2 : n2 ≡ at + 1 + length sp = omega arith in
-      let a' : Wrote al n2 m2 m3 n3 = subst (λ j. Wrote (alignmentBytes (p .alignment) j) n2 m2 m3 n3) e2 (a .each t) in
-      let p3 = a' .puts (omega arith) in
-      let g3 = p3 .place in
-      let p4 = z .each t ec (holds-on (holds-on (holds-on h p1) p2) p3) (omega arith) in
-      subst (λ bs. Puts bs at out out' next) (sym q) (puts-then p1 (puts-then p2 (puts-then p3 p4)))
-
--- A payload that was measured, counted once more in an output of no bytes.
-pub payload-counted : {k : Section} {c : VersionClass} {s pool : List ℕ} (size at next : ℕ) (out : List ℕ) →
-    PayloadPut k c s pool 0 [] [] size → length out ≡ 0 → next ≡ (at + size) % 2 ^ 64 → PayloadPut k c s pool at out out next
-payload-counted {k} {s = s} {pool} size at next out x e p =
+-- Counted once more in an output of no bytes.
+pub payload-counted : {k : Section} {c : VersionClass} {s pool : List ℕ} {p m : Pen} (next : ℕ) (out : List ℕ) →
+    PayloadPut k c s pool (record { word = p .word; run = p .run; at = 0 }) [] [] m → length out ≡ 0 →
+    next ≡ (p .at + m .at) % 2 ^ 64 → PayloadPut k c s pool p out out (record { word = m .word; run = m .run; at = next })
+payload-counted {k} {p = p} {m} next out x e n =
     record {
       each =
-          λ t ec h f.
-          let o = no-length out e in
-          let f' : 0 + length (partIn k t .payload) < 2 ^ 64 = omega arith in
-          let d = x .each t ec (subst (λ l. Holds t s pool l) o h) f' .place in
-          wrote-nowhere (partIn k t .payload) size at next out (omega (arith, d)) e p .puts f;
+          λ t h.
+          record {
+            moved =
+                λ r.
+                let fb = r .bytes-fit in
+                let v =
+                x .each t h .moved
+                (record {
+                  words = r .words;
+                  lent = inr refl;
+                  words-fit = r .words-fit;
+                  run-fits = r .run-fits;
+                  bytes-fit = omega arith;
+                }) in
+                let d = v .puts .place in
+                record {
+                  word = v .word;
+                  run-end = v .run-end;
+                  puts = wrote-nowhere (partIn k t .payload) (m .at) (p .at) next out (omega (arith, d)) e n .puts fb;
+                };
+          };
     }
+
+module _ {k : Section} {c : VersionClass} {s pool : List ℕ} {n1 n2 n3 b0 a0 : ℕ} {p m q : Pen} {there : Bool} {out m1 m2 m3 out' : List ℕ}
+    (g : Presence k s there) (gy : there ≡ true) (w : PayloadPut k c s pool (record { word = p .word; run = p .run; at = 0 }) [] [] m)
+    (o : Opens k b0) (x : Wrote (b0 ∷ []) (p .at) out m1 n1) (y : Wrote (spelling (m .at)) n1 m1 m2 n2) (l : Aligned k a0)
+    (a : AlignmentPut a0 n2 m2 m3 n3) (z : PayloadPut k c s pool (record { word = p .word; run = p .run; at = n3 }) m3 out' q) where
+  section-each : (t : Tables) → Holds c t s → Copied [] (runsIn k t) (sectionBytes (p .at) (partIn k t)) s pool p out out' q
+  unfolding sectionBytes partBytes
+  section-each t h =
+      let d = partIn k t in
+      let sp = spelling (length (d .payload)) in
+      let al = alignmentBytes (d .alignment) (p .at + 1 + length sp) in
+      let e : d .present ≡ true = sym (g .each t (h .words) (h .sound)) ∙ gy in
+      let e' : partBytes (p .at) d ≡ sectionBytes (p .at) d = sym (ap (λ b. cond b (partBytes (p .at) d) []) e) in
+      copied-as e'
+      (copied-ready
+      (λ r.
+      let fb = r .bytes-fit in
+      let l1 = length-append sp (al ++ d .payload) in
+      let l2 = length-append al (d .payload) in
+      let v =
+      w .each t h .moved
+      (record {
+        words = r .words;
+        lent = inr refl;
+        words-fit = r .words-fit;
+        run-fits = r .run-fits;
+        bytes-fit = omega arith;
+      }) in
+      let i : m .at ≡ length (d .payload) = v .puts .place ∙ zero-add (length (d .payload)) in
+      let x' = wrote-as (ap (λ b. b ∷ []) (o .each t)) x in
+      let y' : Wrote sp n1 m1 m2 n2 = wrote-as (ap spelling i) y in
+      let g1 = x' .puts (omega arith) .place in
+      let g2 = y' .puts (omega arith) .place in
+      let e2 : n2 ≡ p .at + 1 + length sp = omega arith in
+      let a' : Wrote al n2 m2 m3 n3 = wrote-as (ap₂ alignmentBytes (l .each t) e2) a in
+      copied-then (copied-put x') (copied-then (copied-put y') (copied-then (copied-put a') (z .each t h)))))
 
 -- A section that is written ..
-pub section-put : {k : Section} {c : VersionClass} {s pool : List ℕ} {at n1 n2 n3 next size b0 : ℕ} {there : Bool} {out kept m1 m2 m3 out' : List ℕ} →
-    Presence k s there → there ≡ true → PayloadPut k c s pool 0 [] [] size → kept ≡ out → Opens k b0 →
-    Wrote (b0 ∷ []) at kept m1 n1 → Wrote (spelling size) n1 m1 m2 n2 → AlignmentPut k n2 m2 m3 n3 →
-    PayloadPut k c s pool n3 m3 out' next → SectionPut k c s pool at out out' next
-section-put {at = at} {n1 = n1} {b0 = b0} {m1 = m1} g gy w e o x y a z =
-    record { each = section-each g gy w o (subst (λ l. Wrote (b0 ∷ []) at l m1 n1) e x) y a z }
+pub section-put : {k : Section} {c : VersionClass} {s pool : List ℕ} {n1 n2 n3 b0 a0 : ℕ} {p m q : Pen} {there : Bool}
+    {out kept m1 m2 m3 out' : List ℕ} → Presence k s there → there ≡ true →
+    PayloadPut k c s pool (record { word = p .word; run = p .run; at = 0 }) [] [] m → kept ≡ out → Opens k b0 →
+    Wrote (b0 ∷ []) (p .at) kept m1 n1 → Wrote (spelling (m .at)) n1 m1 m2 n2 → Aligned k a0 → AlignmentPut a0 n2 m2 m3 n3 →
+    PayloadPut k c s pool (record { word = p .word; run = p .run; at = n3 }) m3 out' q → SectionPut k c s pool p out out' q
+section-put {n1 = n1} {b0 = b0} {p = p} {m1 = m1} g gy w e o x y l a z =
+    record { each = section-each g gy w o (subst (λ l. Wrote (b0 ∷ []) (p .at) l m1 n1) e x) y l a z }
 
--- .. and one that is not.
-pub section-none : {k : Section} {c : VersionClass} {s pool : List ℕ} (at : ℕ) {there : Bool} (out : List ℕ) → Presence k s there →
-    there ≡ false → SectionPut k c s pool at out out at
+-- .. and one that is not has no runs either.
+no-rows : {A : Type 0} (xs : List A) → hasRows xs ≡ false → xs ≡ []
+unfolding hasRows
+no-rows [] e = refl
+no-rows (x ∷ xs) e = absurd (true≢false e)
+
+absent-runs : (k : Section) (t : Tables) → partIn k t .present ≡ false → runsIn k t ≡ []
+unfolding partIn runsIn stringPart constantPart functionPart
+absent-runs section.String t e = ap join (no-rows (t .strings) e)
+absent-runs section.Producer t e = refl
+absent-runs section.Type t e = refl
+absent-runs section.Constant t e = ap join (no-rows (t .constants) e)
+absent-runs section.Global t e = refl
+absent-runs section.Func t e = ap (λ fs. join (map (λ f. f .body) fs)) (no-rows (t .functions) e)
+absent-runs section.Debug t e = refl
+
+pub section-none : {k : Section} {c : VersionClass} {s pool : List ℕ} {p : Pen} {there : Bool} (out : List ℕ) → Presence k s there →
+    there ≡ false → SectionPut k c s pool p out out p
 unfolding sectionBytes
-section-none {k} at out g gn =
+section-none {k} {p = p} out g gn =
     record {
       each =
-          λ t ec h fb.
+          λ t h.
           let e : partIn k t .present ≡ false = sym (g .each t (h .words) (h .sound)) ∙ gn in
-          let q : sectionBytes at (partIn k t) ≡ [] = ap (λ b. cond b (partBytes at (partIn k t)) []) e in
-          let lq = ap length q in
-          subst (λ bs. Puts bs at out out at) (sym q) (wrote-nil at out .puts (omega arith));
+          copied-runs (sym (absent-runs k t e))
+          (copied-as (sym (ap (λ b. cond b (partBytes (p .at) (partIn k t)) []) e)) (copied-nil p out));
     }
 
 -- The version's words.
@@ -210,23 +239,6 @@ version-words : (t : Tables) →
     (getD (sheetOf t) 0 0 ≡ t .version .major) × (getD (sheetOf t) 1 0 ≡ t .version .minor) × (getD (sheetOf t) 2 0 ≡ t .version .tag)
 unfolding sheetOf wordsOf frameOf
 version-words t = (refl, refl, refl)
-
-pub class-of : {s : List ℕ} {r : VersionClass} (m n : ℕ) → m ≡ getD (wordsIn s) 0 0 → n ≡ getD (wordsIn s) 1 0 →
-    r ≡ classOf (m % 256) (n % 256) → ClassOf s r
-unfolding frameOf
-class-of m n em en e =
-    record {
-      each =
-          λ t w h.
-          let v = version-words t in
-          let hm = h .frame .version .major-byte in
-          let hn = h .frame .version .minor-byte in
-          let a : m ≡ t .version .major = em ∙ ap (λ ws. getD ws 0 0) w ∙ v .0 in
-          let b : n ≡ t .version .minor = en ∙ ap (λ ws. getD ws 1 0) w ∙ v .1 in
-          let c : m % 256 ≡ t .version .major = ap (λ x. x % 256) a ∙ mod-eq-of-lt hm in
-          let d : n % 256 ≡ t .version .minor = ap (λ x. x % 256) b ∙ mod-eq-of-lt hn in
-          e ∙ ap₂ classOf c d;
-    }
 
 byte-of : (v : ℕ) → v < 256 → bytesOf 1 v ≡ v ∷ []
 unfolding bytesOf
@@ -261,60 +273,72 @@ parts-first i p ps = go (p .present)
     go true = refl
     go false = ap (λ j. partsFrom j ps) (add-zero i)
 
-pub parts-step : {i j r : ℕ} {out mid out' : List ℕ} (p : Part) (ps : List Part) → i + length (partsFrom i (p ∷ ps)) < 2 ^ 64 →
-    (i + length (sectionBytes i p) < 2 ^ 64 → Puts (sectionBytes i p) i out mid j) →
-    (Puts (sectionBytes i p) i out mid j → j + length (partsFrom j ps) < 2 ^ 64 → Puts (partsFrom j ps) j mid out' r) →
-    Puts (partsFrom i (p ∷ ps)) i out out' r
-parts-step {i} {j} {r} {out} {mid} {out'} p ps h f g =
-    let rest = partsFrom (i + length (sectionBytes i p)) ps in
-    let e = parts-first i p ps in
-    let l = ap length e in
-    let n = length-append (sectionBytes i p) rest in
-    let x = f (omega arith) in
-    let k : j ≡ i + length (sectionBytes i p) = x .place in
-    let m : length (partsFrom j ps) ≡ length rest = ap (λ z. length (partsFrom z ps)) k in
-    let y = g x (omega arith) in
-    let y' : Puts rest j mid out' r = subst (λ z. Puts (partsFrom z ps) j mid out' r) k y in
-    subst (λ bs. Puts bs i out out' r) e (puts-then x y')
+parts-step : {ra rb s pool : List ℕ} {p q r : Pen} {out mid out' : List ℕ} (d : Part) (ds : List Part) →
+    Copied [] ra (sectionBytes (p .at) d) s pool p out mid q → Copied [] rb (partsFrom (q .at) ds) s pool q mid out' r →
+    Copied [] (ra ++ rb) (partsFrom (p .at) (d ∷ ds)) s pool p out out' r
+parts-step {ra} {rb} {s} {pool} {p} {q} {r} {mid = mid} {out'} d ds x y =
+    let b = sectionBytes (p .at) d in
+    let rest = partsFrom (p .at + length b) ds in
+    copied-as (parts-first (p .at) d ds)
+    (copied-ready
+    (λ h.
+    let v = x .moved (ready-front [] ra b [] rb rest h) in
+    copied-then x (subst (λ i. Copied [] rb (partsFrom i ds) s pool q mid out' r) (v .puts .place) y)))
 
-end-put : {i r : ℕ} {out out' : List ℕ} → Wrote (endOfBytecode ∷ []) i out out' r → i + length (partsFrom i []) < 2 ^ 64 →
-    Puts (partsFrom i []) i out out' r
+end-put : {s pool : List ℕ} {p : Pen} {r : ℕ} {out out' : List ℕ} → Wrote (endOfBytecode ∷ []) (p .at) out out' r →
+    Copied [] [] (partsFrom (p .at) []) s pool p out out' (record { word = p .word; run = p .run; at = r })
 unfolding partsFrom
-end-put x h = x .puts h
+end-put x = copied-put x
 
-module _ {c : VersionClass} {s pool : List ℕ} {n0 n1 n2 n3 n4 n5 n6 n7 r : ℕ} {out m0 m1 m2 m3 m4 m5 m6 m7 out' : List ℕ}
-    (k : ClassOf s c) (x : HeaderPut s out m0 n0) (a : SectionPut section.String c s pool n0 m0 m1 n1)
-    (b : SectionPut section.Producer c s pool n1 m1 m2 n2) (d : SectionPut section.Type c s pool n2 m2 m3 n3)
-    (e : SectionPut section.Constant c s pool n3 m3 m4 n4) (f : SectionPut section.Global c s pool n4 m4 m5 n5)
-    (g : SectionPut section.Func c s pool n5 m5 m6 n6) (h : SectionPut section.Debug c s pool n6 m6 m7 n7)
-    (y : Wrote (endOfBytecode ∷ []) n7 m7 out' r) where
-  parts-put : (t : Tables) → Holds t s pool m0 → n0 + length (partsFrom n0 (partsOf t)) < 2 ^ 64 →
-      Puts (partsFrom n0 (partsOf t)) n0 m0 out' r
-  unfolding partsOf partIn
-  parts-put t h0 fit =
-      let ec = k .each t (h0 .words) (h0 .sound) in
-      parts-step _ _ fit (a .each t ec h0) (λ p1 f1. let h1 = holds-on h0 p1 in
-      parts-step _ _ f1 (b .each t ec h1) (λ p2 f2. let h2 = holds-on h1 p2 in
-      parts-step _ _ f2 (d .each t ec h2) (λ p3 f3. let h3 = holds-on h2 p3 in
-      parts-step _ _ f3 (e .each t ec h3) (λ p4 f4. let h4 = holds-on h3 p4 in
-      parts-step _ _ f4 (f .each t ec h4) (λ p5 f5. let h5 = holds-on h4 p5 in
-      parts-step _ _ f5 (g .each t ec h5) (λ p6 f6. let h6 = holds-on h5 p6 in
-      parts-step _ _ f6 (h .each t ec h6) (λ p7 f7. end-put y f7)))))))
+-- The runs of all sections are the pool.
+pool-runs : (t : Tables) → join (t .strings) ++ (join (t .constants) ++ (join (map (λ f. f .body) (t .functions)) ++ [])) ≡ poolOf t
+unfolding poolOf
+pool-runs t = ap (λ l. join (t .strings) ++ (join (t .constants) ++ l)) (append-nil (join (map (λ f. f .body) (t .functions))))
 
-  -- The image was put.
-  pub image-put : ImagePut s pool out out' r
-  unfolding image headerBytes bytesOf
-  image-put =
-      record {
-        each =
-            λ t h0 fit.
-            let n = length-append (headerBytes (t .version)) (partsFrom 12 (partsOf t)) in
-            let p = x .each t (h0 .words) (h0 .sound) .puts (omega arith) in
-            let z : n0 ≡ 12 = p .place in
-            let m = ap (λ i. length (partsFrom i (partsOf t))) z in
-            let q = parts-put t (holds-on h0 p) (omega arith) in
-            puts-then p (subst (λ i. Puts (partsFrom i (partsOf t)) n0 m0 out' r) z q);
-      }
+module _ {c : VersionClass} {s pool : List ℕ} {r : ℕ} {p0 p1 p2 p3 p4 p5 p6 p7 : Pen} {m0 m1 m2 m3 m4 m5 m6 m7 out' : List ℕ}
+    (a : SectionPut section.String c s pool p0 m0 m1 p1) (b : SectionPut section.Producer c s pool p1 m1 m2 p2)
+    (d : SectionPut section.Type c s pool p2 m2 m3 p3) (e : SectionPut section.Constant c s pool p3 m3 m4 p4)
+    (f : SectionPut section.Global c s pool p4 m4 m5 p5) (g : SectionPut section.Func c s pool p5 m5 m6 p6)
+    (h : SectionPut section.Debug c s pool p6 m6 m7 p7) (y : Wrote (endOfBytecode ∷ []) (p7 .at) m7 out' r) where
+  parts-put : (t : Tables) → Holds c t s →
+      Copied [] (poolOf t) (partsFrom (p0 .at) (partsOf t)) s pool p0 m0 out' (record { word = p7 .word; run = p7 .run; at = r })
+  unfolding partsOf partIn runsIn
+  parts-put t z =
+      copied-runs (pool-runs t)
+      (parts-step _ _ (a .each t z) (parts-step _ _ (b .each t z) (parts-step _ _ (d .each t z) (parts-step _ _ (e .each t z)
+      (parts-step _ _ (f .each t z) (parts-step _ _ (g .each t z) (parts-step _ _ (h .each t z) (end-put y))))))))
+
+-- The image was put: the header, and the sections from there on.
+pub image-put : {c : VersionClass} {s pool : List ℕ} {n0 r : ℕ} {p1 p2 p3 p4 p5 p6 p7 : Pen} {out m0 m1 m2 m3 m4 m5 m6 m7 out' : List ℕ} →
+    HeaderPut s out m0 n0 → SectionPut section.String c s pool (record { word = 0; run = 0; at = n0 }) m0 m1 p1 →
+    SectionPut section.Producer c s pool p1 m1 m2 p2 → SectionPut section.Type c s pool p2 m2 m3 p3 →
+    SectionPut section.Constant c s pool p3 m3 m4 p4 → SectionPut section.Global c s pool p4 m4 m5 p5 →
+    SectionPut section.Func c s pool p5 m5 m6 p6 → SectionPut section.Debug c s pool p6 m6 m7 p7 →
+    Wrote (endOfBytecode ∷ []) (p7 .at) m7 out' r → ImagePut c s pool out out' r
+unfolding image headerBytes bytesOf
+image-put {s = s} {pool} {n0} {r} {p7 = p7} {out = out} {m0 = m0} {out' = out'} x a b d e f g h y =
+    record {
+      each =
+          λ t z i fp fb.
+          let hb = headerBytes (t .version) in
+          let last : Pen = record { word = p7 .word; run = p7 .run; at = r } in
+          let n = length-append hb (partsFrom 12 (partsOf t)) in
+          let w = x .each t (z .words) (z .sound) in
+          let k : n0 ≡ 12 = w .puts (omega arith) .place in
+          let q : Copied [] (poolOf t) (partsFrom 12 (partsOf t)) s pool (record { word = 0; run = 0; at = n0 }) m0 out' last =
+          subst (λ j. Copied [] (poolOf t) (partsFrom j (partsOf t)) s pool (record { word = 0; run = 0; at = n0 }) m0 out' last) k
+          (parts-put a b d e f g h y t z) in
+          let all : Copied [] (poolOf t) (hb ++ partsFrom 12 (partsOf t)) s pool (record { word = 0; run = 0; at = 0 }) out out' last =
+          copied-then (copied-put w) q in
+          all .moved
+          (record {
+            words = record { front = []; behind = wordsIn s; whole = refl; place = refl };
+            lent = i;
+            words-fit = omega arith;
+            run-fits = omega arith;
+            bytes-fit = omega arith;
+          }) .puts;
+    }
 
 -- The bytes of a list from place i on.
 pub bytes-next : (l : List ℕ) (i : ℕ) → i < length l → drop i l ≡ getD l i 0 ∷ drop (i + 1) l

@@ -1,24 +1,17 @@
 -- Bytes that are put one after the other, and parts that lie one behind the other. Assumes nothing.
 use mathlib.Core.Path.{_≡_, refl, sym, ap, ap₂, _∙_, subst}
-use mathlib.Core.Logic.{inl, inr}
+use mathlib.Core.Logic.{_⊎_, inl, inr}
 use Prim.Native.Nat.{ℕ, _+_, _-_, _%_, _^_, _≤_, _<_}
 use native.Mathlib.Nat.{add-zero, mod-eq-of-lt}
 use native.Mathlib.Omega.{arith}
-use mathlib.Core.List.{List, [], _∷_, _++_, append-assoc, append-nil}
+use mathlib.Core.List.{List, [], _∷_, _++_, append-assoc}
 use lib.ListN.{length, replicate, take, drop, getD, length-append}
 use lib.Seq.{take-append-seam, drop-at, getD-at}
 use Rattle.exact.specs.Fixed.{bytesOf}
-use Rattle.exact.specs.Tiling.{join}
 use Rattle.enums.specs.Container.{P}
 use Rattle.encoding.specs.Out.{put}
-use Rattle.encoding.proofs.LawsOut.{length-put}
-use Rattle.sheet.specs.Store.{putRuns}
-use Rattle.sheet.proofs.LawsStore.{putRuns-append, putRuns-run, length-putRuns}
+use Rattle.encoding.proofs.LawsOut.{put-nil, put-append, length-put}
 use Rattle.images.specs.Put.{Puts, Wrote, Lies, Lent, RunPut}
-
-join-append : (a b : List (List ℕ)) → join (a ++ b) ≡ join a ++ join b
-join-append [] b = refl
-join-append (x ∷ a) b = ap (λ l. x ++ l) (join-append a b) ∙ sym (append-assoc x (join a) (join b))
 
 -- A list of no elements has nothing before its end.
 pub no-length : (l : List ℕ) → length l ≡ 0 → l ≡ []
@@ -28,37 +21,35 @@ no-length (x ∷ l) h = absurd (omega arith)
 -- What is put in two steps ..
 pub puts-then : {a b : List ℕ} {at next r : ℕ} {out mid out' : List ℕ} → Puts a at out mid next → Puts b next mid out' r →
     Puts (a ++ b) at out out' r
-puts-then {a} {b} {at} {next} {r} {out} x y =
-    let l : length (join (x .runs)) ≡ length a = ap length (x .whole) in
-    let e : next ≡ at + length (join (x .runs)) = x .place ∙ ap (λ n. at + n) (sym l) in
+puts-then {a} {b} {at} {next} {out = out} {mid} x y =
+    let l = length-append a b in
+    let p = x .place in
+    let s = x .size in
     record {
-      runs = x .runs ++ y .runs;
-      whole = join-append (x .runs) (y .runs) ∙ ap₂ (λ p q. p ++ q) (x .whole) (y .whole);
       output =
-          y .output ∙ ap₂ (λ (m : List ℕ) (n : ℕ). putRuns m n (y .runs)) (x .output) e ∙
-          sym (putRuns-append (x .runs) (y .runs) out at);
-      place = let n = length-append a b in omega (arith, x .place, y .place);
+          λ h.
+          let f : at + length a ≤ length out = omega arith in
+          let g : next + length b ≤ length mid = omega arith in
+          let k : at + (length a + length b) ≤ length out = omega arith in
+          y .output g ∙ ap₂ (λ (m : List ℕ) (n : ℕ). put m n b) (x .output f) p ∙ sym (put-append a b out at k);
+      size = y .size ∙ x .size;
+      place = omega (arith, x .place, y .place);
     }
 
--- .. an output keeps its length ..
-pub puts-length : {bs : List ℕ} {at r : ℕ} {out out' : List ℕ} → Puts bs at out out' r → length out' ≡ length out
-puts-length {at = at} {out = out} x = ap length (x .output) ∙ length-putRuns (x .runs) out at
-
--- .. so that one of no bytes stays so ..
+-- .. an output of no bytes stays so ..
 pub puts-none : {bs : List ℕ} {at r : ℕ} {out out' : List ℕ} → out ≡ [] → Puts bs at out out' r → out' ≡ []
-puts-none {out' = out'} e x = no-length out' (puts-length x ∙ ap length e)
+puts-none {out' = out'} e x = no-length out' (x .size ∙ ap length e)
 
--- .. and with room for all of them the bytes are put as they are.
-pub puts-all : {bs : List ℕ} {at r : ℕ} {out out' : List ℕ} → at + length bs ≤ length out → Puts bs at out out' r →
-    out' ≡ put out at bs
-puts-all {bs} {at} {out = out} h x =
-    let l : at + length (join (x .runs)) ≤ length out = rw (x .whole) h in
-    x .output ∙ putRuns-run (x .runs) out at l ∙ ap (put out at) (x .whole)
+-- .. and where the bytes have room, or where there are none, one output and one place are so.
+pub puts-only : {bs : List ℕ} {at r q : ℕ} {out x y : List ℕ} → (at + length bs ≤ length out) ⊎ (length out ≡ 0) →
+    Puts bs at out x r → Puts bs at out y q → (x ≡ y) × (r ≡ q)
+puts-only (inl h) a b = (a .output h ∙ sym (b .output h), a .place ∙ sym (b .place))
+puts-only {x = x} {y = y} (inr e) a b =
+    (no-length x (a .size ∙ e) ∙ sym (no-length y (b .size ∙ e)), a .place ∙ sym (b .place))
 
 -- A run that is put if it has room.
 pub puts-run : (bs : List ℕ) (at : ℕ) (out : List ℕ) → Puts bs at out (put out at bs) (at + length bs)
-unfolding putRuns
-puts-run bs at out = record { runs = bs ∷ []; whole = append-nil bs; output = refl; place = refl }
+puts-run bs at out = record { output = λ h. refl; size = length-put out at bs; place = refl }
 
 pub wrote-then : {a b : List ℕ} {at next r : ℕ} {out mid out' : List ℕ} → Wrote a at out mid next → Wrote b next mid out' r →
     Wrote (a ++ b) at out out' r
@@ -73,9 +64,8 @@ wrote-then {a} {b} {at} {next} x y =
     }
 
 pub wrote-nil : (at : ℕ) (out : List ℕ) → Wrote [] at out out at
-unfolding putRuns
 wrote-nil at out =
-    record { puts = λ h. record { runs = []; whole = refl; output = refl; place = sym (add-zero at) } }
+    record { puts = λ h. record { output = λ l. sym (put-nil out at); size = refl; place = sym (add-zero at) } }
 
 pub wrote-as : {a b : List ℕ} {at r : ℕ} {out out' : List ℕ} → a ≡ b → Wrote a at out out' r → Wrote b at out out' r
 wrote-as {at = at} {r = r} {out = out} {out' = out'} e x = subst (λ l. Wrote l at out out' r) e x

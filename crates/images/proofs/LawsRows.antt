@@ -18,13 +18,13 @@ use Rattle.format.specs.Image.{varints, attributeBytes}
 use Rattle.sheet.specs.Store.{wordsIn}
 use Rattle.images.specs.Put.{RunPut}
 use Rattle.images.specs.Fields.{bytesAs, manyAs, Copied, NumberCopied, NumbersCopied}
-use Rattle.images.specs.Rows.{RunTaken, RowOf, GoodRow, rowWords, rowRun, rowBytes, RowCopied, RowsCopied}
+use Rattle.images.specs.Rows.{RunTaken, RowOf, GoodRow, rowWords, rowRun, rowBytes, RowCopied, Placed, RowsPut}
 use Rattle.images.specs.declared.fields.Number.{Number}
 use Rattle.images.specs.declared.fields.Number.the-variants.{Varint, Byte, Absent}
 use Rattle.images.specs.declared.fields.Pen.{Pen}
 use Rattle.images.specs.declared.rows.Row.{Row}
-use Rattle.images.specs.declared.rows.Row.the-variants as row
-use Rattle.images.proofs.LawsPut.{lies-first}
+use Rattle.images.specs.declared.rows.Table.{Table}
+use Rattle.images.proofs.LawsPut.{lies-first, lies-inside}
 use Rattle.images.proofs.LawsFields.{copied-then, copied-nil, copied-knowing, copied-as}
 use Rattle.images.proofs.LawsTypes.{byte-as, many-varints}
 
@@ -80,6 +80,11 @@ fields-copied n h x y pool vs l =
     (copied-as (ap₂ (λ p q. p ++ q) (many-varints (take n vs)) (many-absent (drop n vs)) ∙ append-nil (varints (take n vs)))
     (copied-then (x .each pool (take n vs) a) (y .each pool (drop n vs) b)))
 
+-- Whatever n rows of this kind the sheet has next, they were copied.
+pub record RowsCopied (c : VersionClass) (k : Row) (n : ℕ) (s pool : List ℕ) (p : Pen) (out out' : List ℕ) (q : Pen) : Type 0 where
+  pub each : (xs : List (RowOf k)) → length xs ≡ n → All (GoodRow c k) xs →
+      Copied (join (map (rowWords k) xs)) (join (map (rowRun k) xs)) (join (map (rowBytes c k) xs)) s pool p out out' q
+
 -- No rows, or one and then the others.
 module _ (c : VersionClass) (k : Row) {s pool : List ℕ} where
   none-each : (p : Pen) (out : List ℕ) (xs : List (RowOf k)) → length xs ≡ 0 →
@@ -103,6 +108,35 @@ rows-none c k n s pool p out z =
 pub rows-more : {c : VersionClass} {k : Row} {s pool : List ℕ} {p q r : Pen} {out mid out' : List ℕ} (n : ℕ) → 0 < n →
     RowCopied c k s pool p out mid q → RowsCopied c k (n - 1) s pool q mid out' r → RowsCopied c k n s pool p out out' r
 rows-more {c} {k} n z f g = record { each = more-each c k n z f g }
+
+-- Rows that stand there are inside.
+pub placed-fits : {c : VersionClass} {k : Row} {ws : List ℕ} {word count : ℕ} (xs : List (RowOf k)) → Placed c k xs ws word count →
+    length ws < 2 ^ 64 → word + length (join (map (rowWords k) xs)) < 2 ^ 64
+placed-fits {k = k} xs p h = omega (arith, lies-inside (join (map (rowWords k) xs)) (p .lies))
+
+-- The rows of a table were put: they stand where it says.
+pub rows-put : {c : VersionClass} {t : Table} {s pool : List ℕ} {p q : Pen} {out out' : List ℕ} →
+    RowsCopied c (t .row) (t .count) s pool (record { word = t .word; run = p .run; at = p .at }) out out' q →
+    RowsPut c t (λ xs. join (map (rowBytes c (t .row)) xs)) s pool p out out' (record { word = p .word; run = q .run; at = q .at })
+rows-put {p = p} x =
+    record {
+      each =
+          λ xs pl fw.
+          record {
+            moved =
+                λ h.
+                let v =
+                x .each xs (pl .number) (pl .good) .moved
+                (record {
+                  words = pl .lies;
+                  lent = h .lent;
+                  words-fit = placed-fits xs pl fw;
+                  run-fits = h .run-fits;
+                  bytes-fit = h .bytes-fit;
+                }) in
+                record { word = sym (add-zero (p .word)); run-end = v .run-end; puts = v .puts };
+          };
+    }
 
 -- A tag, its fields, and the fields that it does not have.
 pub attribute-copied : {s pool : List ℕ} {p q r v : Pen} {out mid last out' : List ℕ} {tag n : ℕ} (a : Attribute) → SoundAttribute a →

@@ -1,8 +1,7 @@
 -- Where the rows of each table stand in a sheet, and their runs in the pool. Assumes nothing.
 use mathlib.Core.Path.{_≡_, refl, sym, ap, ap₂, _∙_, subst}
-use mathlib.Core.Logic.{inl, inr}
-use Prim.Native.Nat.{ℕ, _+_}
-use native.Mathlib.Nat.{zero-add}
+use Prim.Native.Nat.{ℕ, _+_, _^_, _≤_, _<_}
+use native.Mathlib.Omega.{arith}
 use mathlib.Core.List.{List, [], _∷_, _++_, map, append-nil}
 use lib.ListN.{length, getD, length-map, length-append}
 use Rattle.exact.specs.Tiling.{join}
@@ -11,11 +10,11 @@ use Rattle.format.specs.Tables.{TypeRow, Global, Function, Attribute, Tables}
 use Rattle.format.specs.Explains.{class}
 use Rattle.format.specs.Sheet.{Frame, functionRowOf, frameOf, lengthWords, typeWords, globalWords, functionWords, attributeWords, listWords, bodies, contents, producerWord, poolLength, wordsOf, sheetOf, poolOf}
 use Rattle.format.specs.Sound.{All, SoundFunction, Sound}
-use Rattle.images.specs.Put.{Lies, Lent}
-use Rattle.images.specs.Rows.{GoodRow, rowWords, rowRun, rowBytes}
-use Rattle.images.specs.Sections.{Placed}
+use Rattle.images.specs.Put.{Lies}
+use Rattle.images.specs.Rows.{GoodRow, rowWords, rowRun, rowBytes, Placed}
 use Rattle.images.specs.declared.rows.Row.the-variants as row
-use Rattle.images.proofs.LawsPut.{lies-front, lies-back}
+use Rattle.format.proofs.LawsPool.{pool-length}
+use Rattle.images.proofs.LawsPut.{lies-front, lies-back, lies-inside}
 
 -- All the bodies stand behind the contents.
 bodies-lie : (r : Frame) → Lies (wordsOf r) 19 (join (map join (bodies r)))
@@ -171,13 +170,38 @@ module _ (t : Tables) where
         good = lists-good (class (t .version)) (t .lists);
       }
 
+  -- The words of all tables, behind the contents.
+  pub words-parts : 19 + (length (join (map (rowWords row.Run) (t .strings))) + (length (join (map (rowWords row.Type) (t .types))) +
+      (length (join (map (rowWords row.Run) (t .constants))) + (length (join (map (rowWords row.Global) (t .globals))) +
+      (length (join (map (rowWords row.Function) (t .functions))) + (length (join (map (rowWords row.Attribute) (t .attributes))) +
+      length (join (map (rowWords row.List) (t .lists))))))))) ≤ length (sheetOf t)
+  unfolding b0 b1 b2 b3 b4 b5 b6 rowWords
+  words-parts =
+      let e0 = ap (λ l. length (join l)) (run-words (t .strings)) in
+      let e2 = ap (λ l. length (join l)) (run-words (t .constants)) in
+      let e4 = ap (λ l. length (join l)) (function-words (t .functions)) in
+      let i = lies-inside (join b0 ++ (join b1 ++ (join b2 ++ (join b3 ++ (join b4 ++ (join b5 ++ (join b6 ++ []))))))) at0 in
+      let n0 = length-append (join b0) (join b1 ++ (join b2 ++ (join b3 ++ (join b4 ++ (join b5 ++ (join b6 ++ [])))))) in
+      let n1 = length-append (join b1) (join b2 ++ (join b3 ++ (join b4 ++ (join b5 ++ (join b6 ++ []))))) in
+      let n2 = length-append (join b2) (join b3 ++ (join b4 ++ (join b5 ++ (join b6 ++ [])))) in
+      let n3 = length-append (join b3) (join b4 ++ (join b5 ++ (join b6 ++ []))) in
+      let n4 = length-append (join b4) (join b5 ++ (join b6 ++ [])) in
+      let n5 = length-append (join b5) (join b6 ++ []) in
+      let n6 = length-append (join b6) [] in
+      omega arith
+
+  -- Word 4 is a word.
+  pub pool-fits : Sound t → length (poolOf t) < 2 ^ 64
+  unfolding sheetOf wordsOf
+  pool-fits h = rw (pool-length t) (h .words .1 .1 .1 .1 .0)
+
   -- The producer's word.
   pub producer-word : getD (sheetOf t) 3 0 ≡ producerWord (t .producer)
   unfolding sheetOf wordsOf frameOf
   producer-word = refl
 
 -- The runs in the pool: strings, constants, bodies.
-same-runs : (xs : List (List ℕ)) → map (rowRun row.Run) xs ≡ xs
+pub same-runs : (xs : List (List ℕ)) → map (rowRun row.Run) xs ≡ xs
 unfolding rowRun
 same-runs [] = refl
 same-runs (x ∷ xs) = ap (λ l. x ∷ l) (same-runs xs)
@@ -187,41 +211,10 @@ unfolding rowBytes
 same-bytes c [] = refl
 same-bytes c (x ∷ xs) = ap (λ l. x ∷ l) (same-bytes c xs)
 
-body-runs : (fs : List Function) → map (rowRun row.Function) fs ≡ map (λ f. f .body) fs
+pub body-runs : (fs : List Function) → map (rowRun row.Function) fs ≡ map (λ f. f .body) fs
 unfolding rowRun
 body-runs [] = refl
 body-runs (f ∷ fs) = ap (λ l. f .body ∷ l) (body-runs fs)
-
-module _ (t : Tables) {pool out : List ℕ} where
-  behind-strings : Lent pool 0 (poolOf t) out → Lent pool (length (join (t .strings))) (join (t .constants) ++ join (map (λ f. f .body) (t .functions))) out
-  unfolding poolOf
-  behind-strings (inl h) =
-      inl (subst (λ i. Lies pool i (join (t .constants) ++ join (map (λ f. f .body) (t .functions)))) (zero-add (length (join (t .strings)))) (lies-back (join (t .strings)) _ h))
-  behind-strings (inr e) = inr e
-
-  pub strings-lent : Lent pool 0 (poolOf t) out → Lent pool 0 (join (map (rowRun row.Run) (t .strings))) out
-  unfolding poolOf
-  strings-lent (inl h) = inl (subst (λ l. Lies pool 0 (join l)) (sym (same-runs (t .strings))) (lies-front (join (t .strings)) _ h))
-  strings-lent (inr e) = inr e
-
-  constants-front : Lent pool (length (join (t .strings))) (join (t .constants) ++ join (map (λ f. f .body) (t .functions))) out →
-      Lent pool (length (join (t .strings))) (join (map (rowRun row.Run) (t .constants))) out
-  constants-front (inl h) =
-      inl (subst (λ l. Lies pool (length (join (t .strings))) (join l)) (sym (same-runs (t .constants))) (lies-front (join (t .constants)) _ h))
-  constants-front (inr e) = inr e
-
-  pub constants-lent : Lent pool 0 (poolOf t) out → Lent pool (length (join (t .strings))) (join (map (rowRun row.Run) (t .constants))) out
-  constants-lent h = constants-front (behind-strings h)
-
-  bodies-back : Lent pool (length (join (t .strings))) (join (t .constants) ++ join (map (λ f. f .body) (t .functions))) out →
-      Lent pool (length (join (t .strings)) + length (join (t .constants))) (join (map (rowRun row.Function) (t .functions))) out
-  bodies-back (inl h) =
-      inl (subst (λ l. Lies pool (length (join (t .strings)) + length (join (t .constants))) (join l)) (sym (body-runs (t .functions))) (lies-back (join (t .constants)) _ h))
-  bodies-back (inr e) = inr e
-
-  pub bodies-lent : Lent pool 0 (poolOf t) out →
-      Lent pool (length (join (t .strings)) + length (join (t .constants))) (join (map (rowRun row.Function) (t .functions))) out
-  bodies-lent h = bodies-back (behind-strings h)
 
 -- How long they are.
 pub strings-run : (xs : List (List ℕ)) → length (join (map (rowRun row.Run) xs)) ≡ length (join xs)
@@ -252,8 +245,3 @@ attributes-run xs = join-none (rowRun row.Attribute) (λ x. refl) xs
 pub lists-run : (xs : List (List ℕ)) → join (map (rowRun row.List) xs) ≡ []
 unfolding rowRun
 lists-run xs = join-none (rowRun row.List) (λ x. refl) xs
-
--- No run is lent where anything is.
-pub none-lent : {pool out run : List ℕ} (all : List ℕ) → run ≡ [] → Lent pool 0 all out → Lent pool 0 run out
-none-lent {pool} all e (inl h) = inl (subst (Lies pool 0) (sym e) (lies-front [] all h))
-none-lent all e (inr o) = inr o

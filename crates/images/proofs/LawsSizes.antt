@@ -1,10 +1,9 @@
--- How long an image can be: a sheet within its limit has an image far below 2^64 bytes. Assumes nothing.
+-- How long rows, tables and sections can be, by the words of their rows. Assumes nothing.
 use mathlib.Core.Path.{_≡_}
 use mathlib.Core.Logic.{_⊎_, inl, inr}
 use mathlib.Core.Bool.{Bool, true, false, cond}
 use mathlib.Core.Option.{Option, none, some}
-use Prim.Native.Nat.{ℕ, suc, _+_, _-_, _*_, _≤_}
-use native.Mathlib.Nat.{suc-mul}
+use Prim.Native.Nat.{ℕ, _+_, _*_, _≤_}
 use native.Mathlib.Omega.{arith}
 use native.Mathlib.Decide.{ℕ-discrete}
 use mathlib.Core.List.{List, [], _∷_, _++_, map}
@@ -19,7 +18,7 @@ use Rattle.encoding.specs.Varint.{spelling}
 use Rattle.encoding.proofs.LawsVarint.{spelling-ten}
 use Rattle.encoding.proofs.LawsArray.{length-flat}
 use Rattle.format.specs.Tables.{TypeRow, plain, pointer, tile, tensorView, partitionView, gatherScatterView, stridedView, function}
-use Rattle.format.specs.Sheet.{fieldWords, typeWords, globalWords, functionRowOf, functionWords, attributeFields, attributeWords}
+use Rattle.format.specs.Sheet.{total, fieldWords, typeWords, globalWords, functionRowOf, functionWords, attributeFields, attributeWords}
 use Rattle.format.specs.Sound.{All}
 use Rattle.format.specs.Tests.{bit0?, since3?, since4?}
 use Rattle.format.specs.Image.{
@@ -39,8 +38,7 @@ use Rattle.format.specs.Image.{
   partBytes,
   partsFrom,
 }
-use Rattle.images.specs.Rows.{RowOf, rowWords, rowRun, rowBytes}
-use Rattle.images.specs.Sections.{Placed}
+use Rattle.images.specs.Rows.{RowOf, rowWords, rowRun, rowBytes, Placed}
 use Rattle.images.specs.declared.rows.Row.{Row}
 use Rattle.images.specs.declared.rows.Row.the-variants as row
 use Rattle.images.proofs.LawsPut.{lies-inside}
@@ -65,10 +63,10 @@ varints-le [] = omega arith
 varints-le (v ∷ vs) = rw length-append (omega (arith, spelling-ten v, varints-le vs))
 
 partition-size : (c : VersionClass) (flags : ℕ) (shape : List ℕ) (view : ℕ) (dims : List ℕ) (padding : ℕ) →
-    length (partitionBytes c flags shape view dims padding) ≤ 51 + 10 * length shape + 10 * length dims
+    length (partitionBytes c flags shape view dims padding) ≤ 41 + 10 * length shape + 10 * length dims
 unfolding partitionBytes
 partition-size c flags shape view dims padding =
-    either-le (since3? c) (51 + 10 * length shape + 10 * length dims) _ _
+    either-le (since3? c) (41 + 10 * length shape + 10 * length dims) _ _
     (simp length-append
     (omega (
       arith,
@@ -92,8 +90,8 @@ partition-size c flags shape view dims padding =
       spelling-ten padding,
     )))
 
--- A type's entry has at most ten bytes for each word of its row.
-pub type-size : (c : VersionClass) (r : TypeRow) → length (typeBytes c r) ≤ 10 * length (typeWords r)
+-- A type's entry has at most ten bytes for each word of its row but the first.
+type-size : (c : VersionClass) (r : TypeRow) → length (typeBytes c r) + 10 ≤ 10 * length (typeWords r)
 unfolding typeBytes typeWords fieldWords countedVarints
 type-size c (plain tag) = omega (arith, spelling-ten tag)
 type-size c (pointer flags element attribute) =
@@ -152,8 +150,8 @@ type-size c (function inputs results) =
 take-le : (n : ℕ) (vs : List ℕ) → length (take n vs) ≤ length vs
 take-le n vs = rw length-take (omega arith)
 
--- A row has at most ten bytes for each of its words, and its run; and at least one word.
-row-size : (c : VersionClass) (k : Row) (x : RowOf k) → length (rowBytes c k x) ≤ 10 * length (rowWords k x) + length (rowRun k x)
+-- A row and a start of eight bytes have at most ten bytes for each of the row's words, and its run.
+row-size : (c : VersionClass) (k : Row) (x : RowOf k) → length (rowBytes c k x) + 8 ≤ 10 * length (rowWords k x) + length (rowRun k x)
 unfolding rowBytes rowWords rowRun globalBytes globalWords functionBytes functionWords functionRowOf attributeBytes attributeWords attributeFields
 row-size c row.Run x = omega arith
 row-size c row.Type x = omega (arith, type-size c x)
@@ -177,27 +175,15 @@ row-size c row.Attribute a =
     omega (arith, varints-le (take n (attributeFields a)), take-le n (attributeFields a))
 row-size c row.List ids = omega (arith, length-flat 8 ids)
 
-row-some : (k : Row) (x : RowOf k) → 1 ≤ length (rowWords k x)
-unfolding rowWords typeWords globalWords functionWords attributeWords
-row-some row.Run x = omega arith
-row-some row.Type x = omega arith
-row-some row.Global g = omega arith
-row-some row.Function f = omega arith
-row-some row.Attribute a = omega arith
-row-some row.List ids = omega arith
-
 pub rows-size : (c : VersionClass) (k : Row) (xs : List (RowOf k)) →
-    (length (join (map (rowBytes c k) xs)) ≤ 10 * length (join (map (rowWords k) xs)) + length (join (map (rowRun k) xs))) ×
-    (length xs ≤ length (join (map (rowWords k) xs)))
-rows-size c k [] = (omega arith, omega arith)
+    length (join (map (rowBytes c k) xs)) + 8 * length xs ≤ 10 * length (join (map (rowWords k) xs)) + length (join (map (rowRun k) xs))
+rows-size c k [] = omega arith
 rows-size c k (x ∷ xs) =
     let r = rows-size c k xs in
     let lb = length-append (rowBytes c k x) (join (map (rowBytes c k) xs)) in
     let lw = length-append (rowWords k x) (join (map (rowWords k) xs)) in
     let lr = length-append (rowRun k x) (join (map (rowRun k) xs)) in
-    let a = r .0 in
-    let b = r .1 in
-    (omega (arith, row-size c k x), omega (arith, row-some k x))
+    omega (arith, row-size c k x)
 
 -- A count, padding and starts.
 pub numbers-size : (w i : ℕ) (vs : List ℕ) → (w ≡ 4) ⊎ (w ≡ 8) → length (paddedNumbers w w i vs) ≤ 18 + 8 * length vs
@@ -228,35 +214,31 @@ alignment-size o i (inr (inr e)) =
     let g = gap-less 8 (i + length (spelling 8)) (omega arith) in
     rw e (simp (length-append, length-replicate) (omega (arith, spelling-ten 8)))
 
--- Sections whose payloads are at most m bytes long.
-abbrev pub Small : ℕ → Part → Type 0
-Small m p = ((p .alignment ≡ none) ⊎ ((p .alignment ≡ some 4) ⊎ (p .alignment ≡ some 8))) × (length (p .payload) ≤ m)
+-- Sections as they are written: with no alignment, 4 or 8.
+abbrev pub Plain : Part → Type 0
+Plain p = (p .alignment ≡ none) ⊎ ((p .alignment ≡ some 4) ⊎ (p .alignment ≡ some 8))
 
-part-size : (m i : ℕ) (p : Part) → Small m p → length (partBytes i p) ≤ 29 + m
+part-size : (i : ℕ) (p : Part) → Plain p → length (partBytes i p) ≤ 29 + length (p .payload)
 unfolding partBytes
-part-size m i p h =
-    let b = h .1 in
+part-size i p h =
     simp length-append
-    (omega
-    (arith, spelling-ten (length (p .payload)), alignment-size (p .alignment) (i + 1 + length (spelling (length (p .payload)))) (h .0)))
+    (omega (arith, spelling-ten (length (p .payload)), alignment-size (p .alignment) (i + 1 + length (spelling (length (p .payload)))) h))
 
-pub parts-size : (m i : ℕ) (ps : List Part) → All (Small m) ps → length (partsFrom i ps) ≤ 1 + length ps * (29 + m)
-unfolding partsFrom
-parts-size m i [] h = omega arith
-parts-size m i (p ∷ ps) h = go (p .present) (λ j. parts-size m j ps (h .1))
+pub parts-size : (i : ℕ) (ps : List Part) → All Plain ps → length (partsFrom i ps) ≤ 1 + total (map (λ p. 29 + length (p .payload)) ps)
+unfolding partsFrom total
+parts-size i [] h = omega arith
+parts-size i (p ∷ ps) h = go (p .present) (λ j. parts-size j ps (h .1))
   where
-    go : (b : Bool) → ((j : ℕ) → length (partsFrom j ps) ≤ 1 + length ps * (29 + m)) →
-        length (cond b (partBytes i p ++ partsFrom (i + length (partBytes i p)) ps) (partsFrom i ps)) ≤ 1 + suc (length ps) * (29 + m)
-    go true r =
-        rw (length-append, suc-mul (length ps) (29 + m)) (omega (arith, part-size m i p (h .0), r (i + length (partBytes i p))))
-    go false r = rw (suc-mul (length ps) (29 + m)) (omega (arith, r i))
+    go : (b : Bool) → ((j : ℕ) → length (partsFrom j ps) ≤ 1 + total (map (λ p. 29 + length (p .payload)) ps)) →
+        length (cond b (partBytes i p ++ partsFrom (i + length (partBytes i p)) ps) (partsFrom i ps)) ≤
+        1 + (29 + length (p .payload) + total (map (λ p. 29 + length (p .payload)) ps))
+    go true r = rw length-append (omega (arith, part-size i p (h .0), r (i + length (partBytes i p))))
+    go false r = omega (arith, r i)
 
--- A table's rows have no more words than the sheet, no more rows, and ten bytes for each.
+-- A table's rows have no more words than the sheet, and at most ten bytes for each.
 pub table-small : {c : VersionClass} {k : Row} {ws : List ℕ} {word count : ℕ} (xs : List (RowOf k)) → Placed c k xs ws word count →
-    (length xs ≤ length ws) × (length (join (map (rowBytes c k) xs)) ≤ 10 * length ws + length (join (map (rowRun k) xs)))
+    length (join (map (rowBytes c k) xs)) ≤ 10 * length ws + length (join (map (rowRun k) xs))
 table-small {c} {k} xs p =
     let r = rows-size c k xs in
-    let a = r .0 in
-    let b = r .1 in
     let l = lies-inside (join (map (rowWords k) xs)) (p .lies) in
-    (omega arith, omega arith)
+    omega arith

@@ -1,25 +1,23 @@
--- What the writer needs of a sheet that was judged, and what it leaves: the image, as long as it is. Assumes nothing.
-use mathlib.Core.Path.{_≡_, refl, sym, ap, _∙_, subst}
+-- How long an image is: at most ten bytes for each word of its sheet, and its pool; and at least a third of the pool.
+-- Assumes nothing.
+use mathlib.Core.Path.{_≡_, refl, ap}
 use mathlib.Core.Logic.{inl, inr}
-use Prim.Native.Nat.{ℕ, _+_, _*_, _^_, _≤_, _<_}
-use native.Mathlib.Nat.{zero-add}
-use native.Mathlib.Omega.{arith}
-use mathlib.Core.List.{List, [], _∷_, _++_, map, append-nil}
 use mathlib.Core.Bool.{true}
+use Prim.Native.Nat.{ℕ, _+_, _*_, _^_, _≤_, _<_}
+use native.Mathlib.Omega.{arith}
+use mathlib.Core.List.{List, [], _∷_, _++_, map}
 use mathlib.Core.Option.{Option, none, some}
-use lib.ListN.{length, replicate, length-append, length-map, length-replicate}
+use lib.ListN.{length, length-append, length-map}
 use Rattle.exact.specs.Fixed.{bytesOf}
 use Rattle.exact.specs.Tiling.{join, sums}
 use Rattle.exact.proofs.LawsTiling.{length-sums}
 use Rattle.encoding.specs.Varint.{spelling}
-use Rattle.encoding.specs.Out.{put}
 use Rattle.encoding.proofs.LawsVarint.{spelling-ten}
 use Rattle.encoding.proofs.LawsArray.{length-flat}
 use Rattle.format.specs.Tables.{Function, Tables}
 use Rattle.format.specs.Explains.{class}
-use Rattle.format.specs.Sheet.{Frame, poolLength, sheetOf, poolOf}
-use Rattle.format.specs.Sound.{All, Sound}
-use Rattle.format.specs.Judge.{judged, cutting, tablesOf}
+use Rattle.format.specs.Sheet.{total, sheetOf, poolOf}
+use Rattle.format.specs.Sound.{All}
 use Rattle.format.specs.Image.{
   typeBytes,
   globalBytes,
@@ -44,79 +42,65 @@ use Rattle.format.specs.Image.{
 }
 use Rattle.format.proofs.LawsImageSizes.{back-le, table-le}
 use Rattle.format.proofs.LawsImageSizes as image-sizes
-use Rattle.format.proofs.Sheets.{sheet-judged, judged-pool}
-use Rattle.format.proofs.LawsSoundItems.{zeros-fit}
-use Rattle.sheet.specs.Store.{wordsIn}
-use Rattle.images.specs.Put.{Lies}
-use Rattle.images.specs.Rows.{rowRun, rowBytes}
-use Rattle.images.specs.Sections.{Holds}
-use Rattle.images.specs.Images.{ImagePut}
+use Rattle.images.specs.Rows.{rowWords, rowRun, rowBytes}
 use Rattle.images.specs.declared.rows.Row.the-variants as row
-use Rattle.images.proofs.LawsPut.{puts-all}
-use Rattle.images.proofs.LawsSheet.{
-  strings-placed,
-  types-placed,
-  constants-placed,
-  globals-placed,
-  functions-placed,
-  attributes-placed,
-  lists-placed,
-  pool-parts,
-  types-run,
-  globals-run,
-  attributes-run,
-  lists-run,
-}
+use Rattle.images.proofs.LawsSheet.{words-parts, strings-run, same-bytes, pool-parts, types-run, globals-run, attributes-run, lists-run}
 use Rattle.images.proofs.LawsDebug.{list-ids}
-use Rattle.images.proofs.LawsSizes.{table-small, numbers-size, table-size, Small, parts-size}
+use Rattle.images.proofs.LawsSizes.{rows-size, numbers-size, table-size, Plain, parts-size}
 
-producer-small : (o : Option ℕ) → length (producerBytes o) ≤ 10
+producer-size : (o : Option ℕ) → length (producerBytes o) ≤ 10
 unfolding producerBytes
-producer-small none = omega arith
-producer-small (some i) = spelling-ten i
+producer-size none = omega arith
+producer-size (some i) = spelling-ten i
 
-module _ (t : Tables) (snd : Sound t) where
-  abbrev most : ℕ
-  most = 60 + 40 * length (sheetOf t) + length (poolOf t)
+module _ (t : Tables) where
+  strings-size : length (offsetTable 4 4 0 (t .strings)) ≤ 18 + 10 * length (join (map (rowWords row.Run) (t .strings))) + length (join (t .strings))
+  strings-size =
+      let r = rows-size (class (t .version)) row.Run (t .strings) in
+      let b = ap (λ l. length (join l)) (same-bytes (class (t .version)) (t .strings)) in
+      let s = strings-run (t .strings) in
+      omega (arith, table-size 4 0 (t .strings) (inl refl))
 
-  strings-small : length (offsetTable 4 4 0 (t .strings)) ≤ most
-  strings-small =
-      let n = table-small (t .strings) (strings-placed t) .0 in
-      let lp = pool-parts t in
-      let s = table-size 4 0 (t .strings) (inl refl) in
-      omega arith
-
-  types-small : length (offsetTable 4 4 0 (map (typeBytes (class (t .version))) (t .types))) ≤ most
+  types-size : length (offsetTable 4 4 0 (map (typeBytes (class (t .version))) (t .types))) ≤ 18 + 10 * length (join (map (rowWords row.Type) (t .types)))
   unfolding rowBytes
-  types-small =
-      let p = table-small (t .types) (types-placed t snd) in
-      let n = p .0 in
-      let b = p .1 in
-      let r = ap length (types-run (t .types)) in
+  types-size =
+      let r = rows-size (class (t .version)) row.Type (t .types) in
+      let s = ap length (types-run (t .types)) in
       let l = length-map (t .types) (typeBytes (class (t .version))) in
-      let s = table-size 4 0 (map (typeBytes (class (t .version))) (t .types)) (inl refl) in
-      omega arith
+      omega (arith, table-size 4 0 (map (typeBytes (class (t .version))) (t .types)) (inl refl))
 
-  constants-small : length (offsetTable 8 8 0 (t .constants)) ≤ most
-  constants-small =
-      let n = table-small (t .constants) (constants-placed t) .0 in
-      let lp = pool-parts t in
-      let s = table-size 8 0 (t .constants) (inr refl) in
-      omega arith
+  constants-size : length (offsetTable 8 8 0 (t .constants)) ≤ 18 + 10 * length (join (map (rowWords row.Run) (t .constants))) + length (join (t .constants))
+  constants-size =
+      let r = rows-size (class (t .version)) row.Run (t .constants) in
+      let b = ap (λ l. length (join l)) (same-bytes (class (t .version)) (t .constants)) in
+      let s = strings-run (t .constants) in
+      omega (arith, table-size 8 0 (t .constants) (inr refl))
 
-  debug-small : length (debugBytes (t .lists) (map attributeBytes (t .attributes))) ≤ most
+  globals-size : length (spelling (length (t .globals)) ++ join (map (globalBytes (class (t .version))) (t .globals))) ≤
+      10 + 10 * length (join (map (rowWords row.Global) (t .globals)))
+  unfolding rowBytes
+  globals-size =
+      let r = rows-size (class (t .version)) row.Global (t .globals) in
+      let s = ap length (globals-run (t .globals)) in
+      rw length-append (omega (arith, spelling-ten (length (t .globals))))
+
+  functions-size : length (spelling (length (t .functions)) ++ join (map functionBytes (t .functions))) ≤
+      10 + 10 * length (join (map (rowWords row.Function) (t .functions))) + length (join (map (rowRun row.Function) (t .functions)))
+  unfolding rowBytes
+  functions-size =
+      let r = rows-size (class (t .version)) row.Function (t .functions) in
+      rw length-append (omega (arith, spelling-ten (length (t .functions))))
+
+  debug-size : length (debugBytes (t .lists) (map attributeBytes (t .attributes))) ≤
+      54 + (10 * length (join (map (rowWords row.Attribute) (t .attributes))) + 10 * length (join (map (rowWords row.List) (t .lists))))
   unfolding debugBytes rowBytes
-  debug-small =
+  debug-size =
       let es = map attributeBytes (t .attributes) in
       let starts = paddedNumbers 4 4 0 (sums 0 (t .lists)) in
       let ids = paddedNumbers 8 8 (length starts) (join (t .lists)) in
       let table = offsetTable 4 4 (length starts + length ids) es in
-      let p = table-small (t .attributes) (attributes-placed t snd) in
-      let q = table-small (t .lists) (lists-placed t) in
-      let pn = p .0 in
-      let pb = p .1 in
-      let qn = q .0 in
-      let qb = q .1 in
+      let p = rows-size (class (t .version)) row.Attribute (t .attributes) in
+      let q = rows-size (class (t .version)) row.List (t .lists) in
       let ra = ap length (attributes-run (t .attributes)) in
       let rl = ap length (lists-run (t .lists)) in
       let li = ap length (list-ids (class (t .version)) (t .lists)) in
@@ -130,86 +114,31 @@ module _ (t : Tables) (snd : Sound t) where
       let a2 = length-append ids table in
       omega arith
 
-  parts-small : All (Small most) (partsOf t)
-  unfolding partsOf stringPart producerPart typePart constantPart globalPart functionPart debugPart rowBytes
-  parts-small =
-      let g = table-small (t .globals) (globals-placed t snd) .1 in
-      let rg = ap length (globals-run (t .globals)) in
-      let f = table-small (t .functions) (functions-placed t snd) .1 in
-      let lp = pool-parts t in
-      let sg = spelling-ten (length (t .globals)) in
-      let sf = spelling-ten (length (t .functions)) in
-      let sp = producer-small (t .producer) in
-      let pg : length (producerBytes (t .producer)) ≤ most = omega arith in
-      let ig : length (spelling (length (t .globals)) ++ join (map (globalBytes (class (t .version))) (t .globals))) ≤ most =
-      rw length-append (omega arith) in
-      let fs : length (spelling (length (t .functions)) ++ join (map functionBytes (t .functions))) ≤ most = rw length-append (omega arith) in (
-        (inr (inl refl), strings-small),
-        (
-          (inl refl, pg),
-          (
-            (inr (inl refl), types-small),
-            (
-              (inr (inr refl), constants-small),
-              ((inl refl, ig), ((inl refl, fs), ((inr (inr refl), debug-small), tt))),
-            ),
-          ),
-        ),
-      )
+  parts-plain : All Plain (partsOf t)
+  unfolding partsOf stringPart producerPart typePart constantPart globalPart functionPart debugPart
+  parts-plain =
+      (inr (inl refl), (inl refl, (inr (inl refl), (inr (inr refl), (inl refl, (inl refl, (inr (inr refl), tt)))))))
 
   -- The image of a sheet and a pool.
-  pub image-small : length (image t) ≤ 650 + 280 * length (sheetOf t) + 7 * length (poolOf t)
-  unfolding image headerBytes bytesOf partsOf
-  image-small =
+  pub image-size : length (image t) ≤ 200 + 10 * length (sheetOf t) + length (poolOf t)
+  unfolding image headerBytes bytesOf partsOf total stringPart producerPart typePart constantPart globalPart functionPart debugPart
+  image-size =
       let a = length-append (headerBytes (t .version)) (partsFrom 12 (partsOf t)) in
-      let p = parts-size most 12 (partsOf t) parts-small in
+      let p = parts-size 12 (partsOf t) parts-plain in
+      let s0 = strings-size in
+      let s1 = producer-size (t .producer) in
+      let s2 = types-size in
+      let s3 = constants-size in
+      let s4 = globals-size in
+      let s5 = functions-size in
+      let s6 = debug-size in
+      let w = words-parts t in
+      let r = pool-parts t in
       omega arith
 
--- Where they are not too large, it is far below 2^64 bytes.
-pub image-fits : (t : Tables) → Sound t → length (sheetOf t) ≤ 2 ^ 26 → length (poolOf t) ≤ 2 ^ 32 → length (image t) < 2 ^ 64
-image-fits t h w p = let s = image-small t h in omega arith
-
-whole-lies : (l : List ℕ) → Lies l 0 l
-whole-lies l = record { front = []; behind = []; whole = sym (append-nil l); place = refl }
-
--- A sheet and a pool that were judged hold their tables, whatever the output is ..
-pub holds-judged : (s pool out : List ℕ) (t : Tables) → tablesOf (wordsIn s) pool ≡ some t → length (wordsIn s) ≤ 2 ^ 26 →
-    length pool ≤ 2 ^ 32 → Holds t s pool out × (length (image t) < 2 ^ 64)
-holds-judged s pool out t e fw fp =
-    let j = sheet-judged (wordsIn s) pool t .0 e in
-    let lw = ap length (j .0) in
-    let lp = ap length (j .1) in
-    let aw : length (sheetOf t) ≤ 2 ^ 26 = omega arith in
-    let bp : length (poolOf t) ≤ 2 ^ 32 = omega arith in (
-      record {
-        words = j .0;
-        sound = j .2;
-        lent = inl (subst (λ p. Lies pool 0 p) (j .1) (whole-lies pool));
-        words-fit = omega arith;
-        pool-fits = omega arith;
-      },
-      image-fits t (j .2) aw bp,
-    )
-
--- .. and so does a sheet alone, with a pool of zeros, where there is no output.
-pub holds-alone : (s pool : List ℕ) (r : Frame) → judged (wordsIn s) ≡ some r → length (wordsIn s) ≤ 2 ^ 26 → poolLength r ≤ 2 ^ 32 →
-    Holds (cutting r (replicate (poolLength r) 0)) s pool [] × (length (image (cutting r (replicate (poolLength r) 0))) < 2 ^ 64)
-holds-alone s pool r e fw fp =
-    let z : List ℕ = replicate (poolLength r) 0 in
-    let t = cutting r z in
-    let lz = length-replicate {A = ℕ} (poolLength r) 0 in
-    let h = holds-judged s z [] t (judged-pool (wordsIn s) z r e lz (zeros-fit (poolLength r))) fw (omega arith) in
-    let d = h .0 in
-    (record { words = d .words; sound = d .sound; lent = inr refl; words-fit = d .words-fit; pool-fits = d .pool-fits }, h .1)
-
--- The answer is the image's length, and an output with room for it holds it.
-pub image-answer : {s pool out out' : List ℕ} {r : ℕ} (t : Tables) → ImagePut s pool out out' r → Holds t s pool out →
-    length (image t) < 2 ^ 64 → r ≡ length (image t)
-image-answer t x h f = x .each t h f .place ∙ zero-add (length (image t))
-
-pub image-written : {s pool out out' : List ℕ} {r : ℕ} (t : Tables) → ImagePut s pool out out' r → Holds t s pool out →
-    length (image t) < 2 ^ 64 → length (image t) ≤ length out → out' ≡ put out 0 (image t)
-image-written t x h f l = puts-all (rw zero-add l) (x .each t h f)
+-- Of a lent sheet, which has fewer than 2^63 bytes, and a pool that is not too long, it is below 2^64 bytes.
+pub image-fits : (t : Tables) → length (sheetOf t) < 2 ^ 60 → length (poolOf t) ≤ 2 ^ 32 → length (image t) < 2 ^ 64
+image-fits t w p = let s = image-size t in omega arith
 
 by-rows : {A X : Type 0} (xs : List A) → (hasRows xs ≡ true → X) → (xs ≡ [] → X) → X
 unfolding hasRows

@@ -10,3 +10,5 @@ pub mod LawsImage
 pub mod LawsStarts
 pub mod LawsSizes
 pub mod LawsWritten
+pub mod LawsJudged
+pub mod LawsHanded

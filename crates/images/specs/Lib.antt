@@ -6,3 +6,4 @@ pub mod Tables
 pub mod Sections
 pub mod Images
 pub mod Starts
+pub mod Written

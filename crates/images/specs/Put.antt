@@ -2,17 +2,16 @@
 -- that fills the output is the one that measures: on an output of no bytes nothing is put and the places are the same.
 use mathlib.Core.Path.{_≡_}
 use mathlib.Core.Logic.{_⊎_}
-use Prim.Native.Nat.{ℕ, _+_, _^_, _<_}
+use Prim.Native.Nat.{ℕ, _+_, _^_, _≤_, _<_}
 use mathlib.Core.List.{List, [], _++_}
 use lib.ListN.{length}
-use Rattle.exact.specs.Tiling.{join}
-use Rattle.sheet.specs.Store.{putRuns}
+use Rattle.encoding.specs.Out.{put}
 
--- The bytes bs were put from a place on, in runs of which each is put if it has room; the next place is behind them.
+-- The bytes bs were put from a place on, where all of them have room; the next place is behind them in any case. An output
+-- keeps its length, so that one of no bytes has none afterwards.
 pub record Puts (bs : List ℕ) (at : ℕ) (out out' : List ℕ) (next : ℕ) : Type 0 where
-  pub runs : List (List ℕ)
-  pub whole : join runs ≡ bs
-  pub output : out' ≡ putRuns out at runs
+  pub output : at + length bs ≤ length out → out' ≡ put out at bs
+  pub size : length out' ≡ length out
   pub place : next ≡ at + length bs
 
 -- So it is as long as no place reaches 2^64.

@@ -1,7 +1,7 @@
 -- What the writers of rows answer and leave in the output (document 01, "The container" and "The sheet"): one row, and
 -- the rows of a table one after the other.
 use mathlib.Core.Path.{_≡_}
-use Prim.Native.Nat.{ℕ}
+use Prim.Native.Nat.{ℕ, _^_, _<_}
 use mathlib.Core.List.{List, [], map}
 use lib.ListN.{length}
 use Rattle.exact.specs.Tiling.{join}
@@ -11,10 +11,13 @@ use Rattle.format.specs.Tables.{TypeRow, Global, Function, Attribute}
 use Rattle.format.specs.Sheet.{functionRowOf, lengthWords, typeWords, globalWords, functionWords, attributeWords, listWords}
 use Rattle.format.specs.Sound.{All, SoundType, SoundGlobal, SoundFunction, SoundAttribute}
 use Rattle.format.specs.Image.{typeBytes, globalBytes, functionBytes, attributeBytes}
+use Rattle.sheet.specs.Store.{wordsIn}
+use Rattle.images.specs.Put.{Lies}
 use Rattle.images.specs.Fields.{Copied}
 use Rattle.images.specs.declared.fields.Pen.{Pen}
 use Rattle.images.specs.declared.rows.Row.{Row}
 use Rattle.images.specs.declared.rows.Row.the-variants as row
+use Rattle.images.specs.declared.rows.Table.{Table}
 
 -- A run of n bytes of the pool was put.
 pub record RunTaken (n : ℕ) (pool : List ℕ) (p : Pen) (out out' : List ℕ) (q : Pen) : Type 0 where
@@ -69,7 +72,13 @@ rowBytes c row.List x = flat 8 x
 pub record RowCopied (c : VersionClass) (k : Row) (s pool : List ℕ) (p : Pen) (out out' : List ℕ) (q : Pen) : Type 0 where
   pub each : (x : RowOf k) → GoodRow c k x → Copied (rowWords k x) (rowRun k x) (rowBytes c k x) s pool p out out' q
 
--- Whatever n rows of this kind the sheet has next, they were copied.
-pub record RowsCopied (c : VersionClass) (k : Row) (n : ℕ) (s pool : List ℕ) (p : Pen) (out out' : List ℕ) (q : Pen) : Type 0 where
-  pub each : (xs : List (RowOf k)) → length xs ≡ n → All (GoodRow c k) xs →
-      Copied (join (map (rowWords k) xs)) (join (map (rowRun k) xs)) (join (map (rowBytes c k) xs)) s pool p out out' q
+-- A table's rows stand from a word on, and are well-formed.
+pub record Placed (c : VersionClass) (k : Row) (xs : List (RowOf k)) (ws : List ℕ) (word count : ℕ) : Type 0 where
+  pub lies : Lies ws word (join (map (rowWords k) xs))
+  pub number : length xs ≡ count
+  pub good : All (GoodRow c k) xs
+
+-- Whatever rows the table t has, these bytes of them were put. Tables are found by the contents: the pen's word stays.
+pub record RowsPut (c : VersionClass) (t : Table) (bytes : List (RowOf (t .row)) → List ℕ) (s pool : List ℕ) (p : Pen) (out out' : List ℕ) (q : Pen) : Type 0 where
+  pub each : (xs : List (RowOf (t .row))) → Placed c (t .row) xs (wordsIn s) (t .word) (t .count) → length (wordsIn s) < 2 ^ 64 →
+      Copied [] (join (map (rowRun (t .row)) xs)) (bytes xs) s pool p out out' q

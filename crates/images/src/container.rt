@@ -6,29 +6,15 @@ ghost use Rattle.enums.specs.Container.{magic};
 ghost use Rattle.sheet.specs.Store.{wordsIn};
 ghost use Rattle.images.specs.Put.{Wrote};
 ghost use Rattle.images.specs.Sections.{PayloadPut};
-ghost use Rattle.images.specs.Images.{isSome, ClassOf, Presence, Opens, AlignmentPut, SectionPut, HeaderPut, ImagePut};
+ghost use Rattle.images.specs.Images.{isSome, Presence, Opens, Aligned, AlignmentPut, SectionPut, HeaderPut, ImagePut};
+use crate::fields::Pen;
 use crate::put::put_byte;
 use crate::put::put_le;
 use crate::put::put_varint;
 use crate::sections::Section;
 use crate::sections::put_payload;
 use crate::tables::put_count;
-use enums::BytecodeVersion;
 use enums::VersionClass;
-
-// The version class of the sheet. The sheet was judged, so both numbers are bytes.
-pub fn class_of(sheet: &[u8]) -> VersionClass
-    ensures { λ r. ⌜ ClassOf (now (sheet .entry)) r ⌝ }
-{
-    let major = sheet::word_at(sheet, 0);
-    let minor = sheet::word_at(sheet, 1);
-    let version = BytecodeVersion {
-        major: (major % 256) as u8,
-        minor: (minor % 256) as u8,
-        tag: 0,
-    };
-    version.class()
-}
 
 // Whether a word of the sheet is not 0.
 fn is_some(sheet: &[u8], word: usize) -> bool
@@ -75,33 +61,49 @@ fn first_byte(section: Section) -> u8
     }
 }
 
-// The alignment and the padding, which counts from the file's start, of the sections that have one.
-fn put_alignment(section: Section, out: &mut [u8], at: usize) -> usize
-    ensures { λ r. ⌜ AlignmentPut section at (now (out .entry)) (now (out .exit)) r ⌝ }
+// The alignment of a section; 0 where it has none.
+fn alignment_of(section: Section) -> usize
+    ensures { λ r. ⌜ Aligned section r ⌝ }
 {
     match section {
-        Section::String => put_count(out, 0, at, 4, 4),
-        Section::Producer => at,
-        Section::Type => put_count(out, 0, at, 4, 4),
-        Section::Constant => put_count(out, 0, at, 8, 8),
-        Section::Global => at,
-        Section::Func => at,
-        Section::Debug => put_count(out, 0, at, 8, 8),
+        Section::String => 4,
+        Section::Producer => 0,
+        Section::Type => 4,
+        Section::Constant => 8,
+        Section::Global => 0,
+        Section::Func => 0,
+        Section::Debug => 8,
     }
 }
 
-// How long a payload is.
+// The alignment and the padding, which counts from the file's start, of a section that has one.
+fn put_alignment(out: &mut [u8], at: usize, alignment: usize) -> usize
+    ensures { λ r. ⌜ AlignmentPut alignment at (now (out .entry)) (now (out .exit)) r ⌝ }
+{
+    if alignment == 0 {
+        return at;
+    }
+    put_count(out, 0, at, alignment as u64, alignment)
+}
+
+// How far a payload takes the pen from place 0, without its bytes: its length, and where the pool goes on.
 fn measure_payload(
     sheet: &[u8],
     pool: &[u8],
     class: VersionClass,
     section: Section,
     out: &mut [u8],
-) -> usize
-    ensures { λ r. ⌜ PayloadPut section «class» (now (sheet .entry)) (now (pool .entry)) 0 [] [] r ⌝ }
+    pen: Pen,
+) -> Pen
+    ensures { λ r. ⌜ PayloadPut section «class» (now (sheet .entry)) (now (pool .entry)) (record { word = pen .word; run = pen .run; at = 0 }) [] [] r ⌝ }
     ensures { λ r. ⌜ now (out .exit) ≡ now (out .entry) ⌝ }
 {
-    put_payload(sheet, pool, class, section, &mut out[0..0], 0)
+    let begin = Pen {
+        word: pen.word,
+        run: pen.run,
+        at: 0,
+    };
+    put_payload(sheet, pool, class, section, &mut out[0..0], begin)
 }
 
 // A payload that was measured. Into an output of no bytes it is not put once more.
@@ -110,38 +112,46 @@ fn put_measured(
     pool: &[u8],
     class: VersionClass,
     section: Section,
-    size: usize,
+    measured: Pen,
     out: &mut [u8],
-    at: usize,
-) -> usize
-    requires { ⌜ PayloadPut section «class» (now sheet) (now pool) 0 [] [] size ⌝ }
-    ensures { λ r. ⌜ PayloadPut section «class» (now (sheet .entry)) (now (pool .entry)) at (now (out .entry)) (now (out .exit)) r ⌝ }
+    pen: Pen,
+) -> Pen
+    requires { ⌜ PayloadPut section «class» (now sheet) (now pool) (record { word = pen .word; run = pen .run; at = 0 }) [] [] measured ⌝ }
+    ensures { λ r. ⌜ PayloadPut section «class» (now (sheet .entry)) (now (pool .entry)) pen (now (out .entry)) (now (out .exit)) r ⌝ }
 {
     if out.len() == 0 {
-        return std::num::wrapping_add_usize(at, size);
+        return Pen {
+            word: measured.word,
+            run: measured.run,
+            at: std::num::wrapping_add_usize(pen.at, measured.at),
+        };
     }
-    put_payload(sheet, pool, class, section, out, at)
+    put_payload(sheet, pool, class, section, out, pen)
 }
 
-// A section, if it is written.
+// A section, if it is written. Its payload is measured first, since its length stands before it.
 fn put_section(
     sheet: &[u8],
     pool: &[u8],
     class: VersionClass,
     section: Section,
     out: &mut [u8],
-    at: usize,
-) -> usize
-    ensures { λ r. ⌜ SectionPut section «class» (now (sheet .entry)) (now (pool .entry)) at (now (out .entry)) (now (out .exit)) r ⌝ }
+    pen: Pen,
+) -> Pen
+    ensures { λ r. ⌜ SectionPut section «class» (now (sheet .entry)) (now (pool .entry)) pen (now (out .entry)) (now (out .exit)) r ⌝ }
 {
-    if is_present(sheet, section) {
-        let size = measure_payload(sheet, pool, class, section, out);
-        let first = put_byte(out, at, first_byte(section));
-        let length = put_varint(out, first, size as u64);
-        let begin = put_alignment(section, out, length);
-        return put_measured(sheet, pool, class, section, size, out, begin);
+    if !is_present(sheet, section) {
+        return pen;
     }
-    at
+    let measured = measure_payload(sheet, pool, class, section, out, pen);
+    let first = put_byte(out, pen.at, first_byte(section));
+    let length = put_varint(out, first, measured.at as u64);
+    let begin = Pen {
+        word: pen.word,
+        run: pen.run,
+        at: put_alignment(out, length, alignment_of(section)),
+    };
+    put_measured(sheet, pool, class, section, measured, out, begin)
 }
 
 fn put_magic(out: &mut [u8]) -> usize
@@ -169,11 +179,14 @@ fn put_header(sheet: &[u8], out: &mut [u8]) -> usize
 
 // The image of a sheet that was judged, and of its pool; into an output of no bytes, only its length, for which the
 // pool may be left out.
-pub fn put_image(sheet: &[u8], pool: &[u8], out: &mut [u8]) -> usize
-    ensures { λ r. ⌜ ImagePut (now (sheet .entry)) (now (pool .entry)) (now (out .entry)) (now (out .exit)) r ⌝ }
+pub fn put_image(sheet: &[u8], pool: &[u8], class: VersionClass, out: &mut [u8]) -> usize
+    ensures { λ r. ⌜ ImagePut «class» (now (sheet .entry)) (now (pool .entry)) (now (out .entry)) (now (out .exit)) r ⌝ }
 {
-    let class = class_of(sheet);
-    let header = put_header(sheet, out);
+    let header = Pen {
+        word: 0,
+        run: 0,
+        at: put_header(sheet, out),
+    };
     let strings = put_section(sheet, pool, class, Section::String, out, header);
     let producer = put_section(sheet, pool, class, Section::Producer, out, strings);
     let types = put_section(sheet, pool, class, Section::Type, out, producer);
@@ -181,5 +194,5 @@ pub fn put_image(sheet: &[u8], pool: &[u8], out: &mut [u8]) -> usize
     let globals = put_section(sheet, pool, class, Section::Global, out, constants);
     let functions = put_section(sheet, pool, class, Section::Func, out, globals);
     let debug = put_section(sheet, pool, class, Section::Debug, out, functions);
-    put_byte(out, debug, enums::Section::END_OF_BYTECODE)
+    put_byte(out, debug.at, enums::Section::END_OF_BYTECODE)
 }

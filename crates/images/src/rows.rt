@@ -1,6 +1,10 @@
 // The rows of the tables: each becomes its bytes of the file, and the rows of a table stand one behind the other.
+ghost use Prim.Native.Nat.{ℕ};
+ghost use mathlib.Core.List.{List, map};
+ghost use Rattle.exact.specs.Tiling.{join};
+ghost use Rattle.enums.specs.declared.VersionClass.{VersionClass};
 ghost use Rattle.images.specs.declared.rows.Row.the-variants as kinds;
-ghost use Rattle.images.specs.Rows.{RunTaken, RowCopied, RowsCopied};
+ghost use Rattle.images.specs.Rows.{RunTaken, rowBytes, RowCopied, RowsPut};
 use crate::fields::Number;
 use crate::fields::Pen;
 use crate::fields::copy_number;
@@ -21,6 +25,15 @@ pub enum Row {
     List,
 }
 
+// A table of the sheet: its kind of rows, its first word, its row count; and the width of a start in the file, to which
+// the starts are aligned as well. A table without starts has 0.
+pub struct Table {
+    pub row: Row,
+    pub word: usize,
+    pub count: u64,
+    pub width: usize,
+}
+
 // Puts the next `len` bytes of the pool.
 fn take_run(pool: &[u8], len: u64, out: &mut [u8], pen: Pen) -> Pen
     ensures { λ r. ⌜ RunTaken len (now (pool .entry)) pen (now (out .entry)) (now (out .exit)) r ⌝ }
@@ -34,16 +47,16 @@ fn take_run(pool: &[u8], len: u64, out: &mut [u8], pen: Pen) -> Pen
 }
 
 // A string or a constant: its length is the sheet's alone.
-fn put_run(sheet: &[u8], pool: &[u8], class: VersionClass, out: &mut [u8], pen: Pen) -> Pen
-    ensures { λ r. ⌜ RowCopied «class» kinds.Run (now (sheet .entry)) (now (pool .entry)) pen (now (out .entry)) (now (out .exit)) r ⌝ }
+fn put_run(sheet: &[u8], pool: &[u8], out: &mut [u8], pen: Pen) -> Pen
+    ensures { λ r. ⌜ ((c : VersionClass) → RowCopied c kinds.Run (now (sheet .entry)) (now (pool .entry)) pen (now (out .entry)) (now (out .exit)) r) ⌝ }
 {
     let len = sheet::word_at(sheet, pen.word);
     let row = copy_number(sheet, Number::Absent, out, pen);
     take_run(pool, len, out, row)
 }
 
-fn put_global(sheet: &[u8], pool: &[u8], class: VersionClass, out: &mut [u8], pen: Pen) -> Pen
-    ensures { λ r. ⌜ RowCopied «class» kinds.Global (now (sheet .entry)) (now (pool .entry)) pen (now (out .entry)) (now (out .exit)) r ⌝ }
+fn put_global(sheet: &[u8], class: VersionClass, out: &mut [u8], pen: Pen) -> Pen
+    ensures { λ r. ⌜ ((pool : List ℕ) → RowCopied «class» kinds.Global (now (sheet .entry)) pool pen (now (out .entry)) (now (out .exit)) r) ⌝ }
 {
     let name = copy_number(sheet, Number::Varint, out, pen);
     let ty = copy_number(sheet, Number::Varint, out, name);
@@ -53,8 +66,8 @@ fn put_global(sheet: &[u8], pool: &[u8], class: VersionClass, out: &mut [u8], pe
     copy_number(sheet, since_13_3(class, Number::Varint), out, visibility)
 }
 
-fn put_function(sheet: &[u8], pool: &[u8], class: VersionClass, out: &mut [u8], pen: Pen) -> Pen
-    ensures { λ r. ⌜ RowCopied «class» kinds.Function (now (sheet .entry)) (now (pool .entry)) pen (now (out .entry)) (now (out .exit)) r ⌝ }
+fn put_function(sheet: &[u8], pool: &[u8], out: &mut [u8], pen: Pen) -> Pen
+    ensures { λ r. ⌜ ((c : VersionClass) → RowCopied c kinds.Function (now (sheet .entry)) (now (pool .entry)) pen (now (out .entry)) (now (out .exit)) r) ⌝ }
 {
     let name = copy_number(sheet, Number::Varint, out, pen);
     let signature = copy_number(sheet, Number::Varint, out, name);
@@ -65,8 +78,8 @@ fn put_function(sheet: &[u8], pool: &[u8], class: VersionClass, out: &mut [u8], 
     take_run(pool, len, out, body)
 }
 
-fn put_attribute(sheet: &[u8], pool: &[u8], class: VersionClass, out: &mut [u8], pen: Pen) -> Pen
-    ensures { λ r. ⌜ RowCopied «class» kinds.Attribute (now (sheet .entry)) (now (pool .entry)) pen (now (out .entry)) (now (out .exit)) r ⌝ }
+fn put_attribute(sheet: &[u8], out: &mut [u8], pen: Pen) -> Pen
+    ensures { λ r. ⌜ ((c : VersionClass) (pool : List ℕ) → RowCopied c kinds.Attribute (now (sheet .entry)) pool pen (now (out .entry)) (now (out .exit)) r) ⌝ }
 {
     let count = DebugTag::field_count(sheet::word_at(sheet, pen.word));
     let tag = copy_number(sheet, Number::Byte, out, pen);
@@ -75,8 +88,8 @@ fn put_attribute(sheet: &[u8], pool: &[u8], class: VersionClass, out: &mut [u8],
 }
 
 // A debug list: its count is the sheet's alone.
-fn put_list(sheet: &[u8], pool: &[u8], class: VersionClass, out: &mut [u8], pen: Pen) -> Pen
-    ensures { λ r. ⌜ RowCopied «class» kinds.List (now (sheet .entry)) (now (pool .entry)) pen (now (out .entry)) (now (out .exit)) r ⌝ }
+fn put_list(sheet: &[u8], out: &mut [u8], pen: Pen) -> Pen
+    ensures { λ r. ⌜ ((c : VersionClass) (pool : List ℕ) → RowCopied c kinds.List (now (sheet .entry)) pool pen (now (out .entry)) (now (out .exit)) r) ⌝ }
 {
     let count = sheet::word_at(sheet, pen.word);
     let row = copy_number(sheet, Number::Absent, out, pen);
@@ -95,32 +108,40 @@ pub fn put_row(
     ensures { λ r. ⌜ RowCopied «class» row (now (sheet .entry)) (now (pool .entry)) pen (now (out .entry)) (now (out .exit)) r ⌝ }
 {
     match row {
-        Row::Run => put_run(sheet, pool, class, out, pen),
+        Row::Run => put_run(sheet, pool, out, pen),
         Row::Type => put_type(sheet, class, out, pen),
-        Row::Global => put_global(sheet, pool, class, out, pen),
-        Row::Function => put_function(sheet, pool, class, out, pen),
-        Row::Attribute => put_attribute(sheet, pool, class, out, pen),
-        Row::List => put_list(sheet, pool, class, out, pen),
+        Row::Global => put_global(sheet, class, out, pen),
+        Row::Function => put_function(sheet, pool, out, pen),
+        Row::Attribute => put_attribute(sheet, out, pen),
+        Row::List => put_list(sheet, out, pen),
     }
 }
 
-// The next `count` rows.
+// The rows of a table. The pen's word stays: tables are found by the contents.
 pub fn put_rows(
     sheet: &[u8],
     pool: &[u8],
     class: VersionClass,
-    row: Row,
-    count: u64,
+    table: Table,
     out: &mut [u8],
     pen: Pen,
 ) -> Pen
-    ensures { λ r. ⌜ RowsCopied «class» row count (now (sheet .entry)) (now (pool .entry)) pen (now (out .entry)) (now (out .exit)) r ⌝ }
+    ensures { λ r. ⌜ RowsPut «class» table (λ xs. join (map (rowBytes «class» (table .row)) xs)) (now (sheet .entry)) (now (pool .entry)) pen (now (out .entry)) (now (out .exit)) r ⌝ }
 {
-    let mut next = pen;
-    let mut left = count;
+    let row = table.row;
+    let mut next = Pen {
+        word: table.word,
+        run: pen.run,
+        at: pen.at,
+    };
+    let mut left = table.count;
     while 0 < left {
         next = put_row(sheet, pool, class, row, out, next);
         left -= 1;
     }
-    next
+    Pen {
+        word: pen.word,
+        run: next.run,
+        at: next.at,
+    }
 }

@@ -1,27 +1,39 @@
-// Offset tables: a count, padding, the starts, and the data. An entry's length, which the next start needs, is got by
-// putting the entry into an output of no bytes.
+// Offset tables: a count, padding, the starts, and the data. Starts that count bytes and starts that count ids are two
+// units. An entry's length, which the next start needs, is got by putting the entry into an output of no bytes.
 ghost use mathlib.Core.Path.{_≡_};
 ghost use Prim.Native.Nat.{_+_, _-_, _*_, _%_, _^_};
-ghost use mathlib.Core.List.{[]};
-ghost use Rattle.images.specs.Rows.{RowCopied, RowsCopied};
-ghost use Rattle.images.specs.Tables.{CountPut, inUnits, StartsPut, TablePut};
+ghost use Rattle.enums.specs.declared.VersionClass.{VersionClass};
+ghost use Rattle.images.specs.declared.rows.Row.the-variants as kinds;
+ghost use Rattle.images.specs.Rows.{rowBytes};
+ghost use Rattle.images.specs.Tables.{CountPut, ids, NextEntry, StartsPut, ListStartsPut, TablePut};
 use crate::fields::Pen;
 use crate::put::put_le;
 use crate::put::put_padding;
 use crate::put::put_varint;
 use crate::rows::Row;
+use crate::rows::Table;
 use crate::rows::put_row;
 use crate::rows::put_rows;
+use enums::BytePosition;
+use enums::IdPosition;
 use enums::VersionClass;
 
-// A table of the sheet: its kind of rows, its first word, its row count, its first byte of the pool; and the width of a
-// start in the file, to which the starts are aligned as well.
-pub struct Table {
-    pub row: Row,
+// An entry of a table whose starts count bytes: its first word of the sheet, and where it begins in the data.
+pub struct Entry {
     pub word: usize,
-    pub count: u64,
-    pub run: usize,
-    pub width: usize,
+    pub start: BytePosition,
+}
+
+// A debug list: its first word of the sheet, and where its ids begin among those of all lists.
+pub struct ListEntry {
+    pub word: usize,
+    pub start: IdPosition,
+}
+
+// How far the starts of lists are put: behind the ids of the last list, and at the next place.
+pub struct ListStarts {
+    pub end: IdPosition,
+    pub at: usize,
 }
 
 // The place of a payload that begins at `base`.
@@ -42,48 +54,41 @@ pub fn put_count(out: &mut [u8], base: usize, at: usize, count: u64, alignment: 
     put_padding(out, next, alignment, place_in(base, next))
 }
 
-// How far a row takes the pen, without its bytes.
-pub fn measure_row(
+// The entry behind this one.
+pub fn next_entry(
     sheet: &[u8],
     pool: &[u8],
     class: VersionClass,
     row: Row,
     out: &mut [u8],
-    pen: Pen,
-) -> Pen
-    ensures { λ r. ⌜ RowCopied «class» row (now (sheet .entry)) (now (pool .entry)) pen [] [] r ⌝ }
+    this: Entry,
+) -> Entry
+    ensures { λ r. ⌜ NextEntry «class» row (rowBytes «class» row) (now (sheet .entry)) (this .word) (this .start .0) (r .word) (r .start .0) ⌝ }
     ensures { λ r. ⌜ now (out .exit) ≡ now (out .entry) ⌝ }
 {
-    put_row(sheet, pool, class, row, &mut out[0..0], pen)
+    let begin = Pen {
+        word: this.word,
+        run: 0,
+        at: 0,
+    };
+    let end = put_row(sheet, pool, class, row, &mut out[0..0], begin);
+    let start = this.start;
+    Entry {
+        word: end.word,
+        start: BytePosition(std::num::wrapping_add_usize(start.0, end.at)),
+    }
 }
 
-// How far rows take the pen, without their bytes.
-pub fn measure_rows(
-    sheet: &[u8],
-    pool: &[u8],
-    class: VersionClass,
-    row: Row,
-    count: u64,
-    out: &mut [u8],
-    pen: Pen,
-) -> Pen
-    ensures { λ r. ⌜ RowsCopied «class» row count (now (sheet .entry)) (now (pool .entry)) pen [] [] r ⌝ }
-    ensures { λ r. ⌜ now (out .exit) ≡ now (out .entry) ⌝ }
+// The list behind this one, whose first word counts its ids.
+pub fn next_list(sheet: &[u8], this: ListEntry) -> ListEntry
+    ensures { λ r. ⌜ ((c : VersionClass) → NextEntry c kinds.List ids (now (sheet .entry)) (this .word) (this .start .0) (r .word) (r .start .0)) ⌝ }
 {
-    put_rows(sheet, pool, class, row, count, &mut out[0..0], pen)
-}
-
-// Starts count bytes; those of debug lists count ids.
-pub fn in_units(row: Row, size: usize) -> usize
-    ensures { λ r. ⌜ r ≡ inUnits row size ⌝ }
-{
-    match row {
-        Row::Run => size,
-        Row::Type => size,
-        Row::Global => size,
-        Row::Function => size,
-        Row::Attribute => size,
-        Row::List => size / 8,
+    let count = sheet::word_at(sheet, this.word) as usize;
+    let first = std::num::wrapping_add_usize(this.word, 1);
+    let start = this.start;
+    ListEntry {
+        word: std::num::wrapping_add_usize(first, count),
+        start: IdPosition(std::num::wrapping_add_usize(start.0, count)),
     }
 }
 
@@ -109,29 +114,45 @@ pub fn put_starts(
     out: &mut [u8],
     at: usize,
 ) -> usize
-    ensures { λ r. ⌜ StartsPut «class» (table .row) (table .width) (table .count) (now (sheet .entry)) (table .word) 0 at (now (out .entry)) (now (out .exit)) r ⌝ }
+    ensures { λ r. ⌜ StartsPut «class» (table .row) (rowBytes «class» (table .row)) (table .width) (table .count) (now (sheet .entry)) (table .word) 0 at (now (out .entry)) (now (out .exit)) r ⌝ }
 {
     if out.len() == 0 {
         return skip_starts(at, table.count, table.width);
     }
     let row = table.row;
     let mut next = at;
-    let mut start = 0;
-    let mut word = table.word;
+    let mut this = Entry {
+        word: table.word,
+        start: BytePosition(0),
+    };
     let mut left = table.count;
     while 0 < left {
-        next = put_le(out, next, start as u64, table.width);
-        let begin = Pen {
-            word,
-            run: 0,
-            at: 0,
-        };
-        let end = measure_row(sheet, pool, class, row, out, begin);
-        start = std::num::wrapping_add_usize(start, in_units(row, end.at));
-        word = end.word;
+        let start = this.start;
+        next = put_le(out, next, start.0 as u64, table.width);
+        this = next_entry(sheet, pool, class, row, out, this);
         left -= 1;
     }
     next
+}
+
+// The starts of the debug lists, which count ids.
+pub fn put_list_starts(sheet: &[u8], table: Table, out: &mut [u8], at: usize) -> ListStarts
+    ensures { λ r. ⌜ ListStartsPut (table .width) (table .count) (now (sheet .entry)) (table .word) 0 at (now (out .entry)) (now (out .exit)) (r .end .0) (r .at) ⌝ }
+{
+    let mut next = at;
+    let mut this = ListEntry {
+        word: table.word,
+        start: IdPosition(0),
+    };
+    let mut left = table.count;
+    while 0 < left {
+        let start = this.start;
+        next = put_le(out, next, start.0 as u64, table.width);
+        this = next_list(sheet, this);
+        left -= 1;
+    }
+    let end = this.start;
+    ListStarts { end, at: next }
 }
 
 // An offset table in a payload that begins at `base`.
@@ -142,18 +163,16 @@ pub fn put_table(
     table: Table,
     out: &mut [u8],
     base: usize,
-    at: usize,
-) -> usize
-    ensures { λ r. ⌜ TablePut «class» table (now (sheet .entry)) (now (pool .entry)) base at (now (out .entry)) (now (out .exit)) r ⌝ }
+    pen: Pen,
+) -> Pen
+    ensures { λ r. ⌜ TablePut «class» table base (now (sheet .entry)) (now (pool .entry)) pen (now (out .entry)) (now (out .exit)) r ⌝ }
 {
-    let first = put_count(out, base, at, table.count, table.width);
+    let first = put_count(out, base, pen.at, table.count, table.width);
     let data = put_starts(sheet, pool, class, table, out, first);
-    let row = table.row;
     let begin = Pen {
-        word: table.word,
-        run: table.run,
+        word: pen.word,
+        run: pen.run,
         at: data,
     };
-    let end = put_rows(sheet, pool, class, row, table.count, out, begin);
-    end.at
+    put_rows(sheet, pool, class, table, out, begin)
 }

@@ -15,6 +15,7 @@ use Rattle.exact.specs.Fixed.{raw}
 use Rattle.exact.proofs.LawsChoice.{choose-yes, choose-no}
 use Rattle.enums.specs.Version.{classOf}
 use Rattle.enums.specs.declared.VersionClass.{VersionClass}
+use Rattle.format.specs.Read.{Read, accepted}
 use Rattle.format.specs.Tables.{Version}
 use Rattle.format.specs.Sheet.{FunctionRow, Frame, lengthWords, bodies, producerWord, total, poolLength, wordsOf}
 use Rattle.format.specs.Sheet as frame
@@ -24,14 +25,13 @@ use Rattle.format.specs.Judge.{word, typeAt, globalAt, functionAt, attributeAt,
 use Rattle.format.proofs.LawsFrame.{judged-exact}
 use Rattle.sheet.specs.Store.{wordsIn}
 use Rattle.sheet.proofs.LawsWords.{length-wordsIn, word-below}
-use Rattle.judge.specs.declared.SheetJudged.{SheetJudged}
-use Rattle.judge.specs.declared.SheetJudged.the-variants as sheet
+use Rattle.judge.specs.declared.Judged.{Judged}
 use Rattle.judge.specs.declared.steps.Place.{Place}
 use Rattle.judge.specs.declared.steps.Place.the-variants.{At, Stop}
 use Rattle.judge.specs.declared.rows.Rows.the-variants.{Lengths, Types, Globals, Functions, Attributes, Lists}
 use Rattle.judge.specs.Steps.{thru, only, holds, kept}
 use Rattle.judge.specs.Rows.{rowAfter, tableAfter, tablesAfter}
-use Rattle.judge.specs.Judge.{judgedBytes, summary, headFits}
+use Rattle.judge.specs.Judge.{judgedBytes, notSound, summary, headFits}
 use Rattle.judge.proofs.LawsThru.{thru-bind, thru-map, thru-such, only-thru, kept-at}
 use Rattle.judge.proofs.LawsTests.{holds-same, holds-both, holds-fits, holds-eq, holds-yes}
 use Rattle.judge.proofs.LawsSteps.{word-at, words-at, words-end}
@@ -74,34 +74,34 @@ module _ (c : VersionClass) (l : List ℕ) (i left : ℕ) where
   lists-at = kept-table c l 6 (omega arith) Lists i left listAt refl
 
 -- The end: the sheet's last word, and nothing left.
-unfoldable pub closed : ℕ → SheetJudged → Place → SheetJudged
-closed n x (At j left) = only sheet.Stop (eqb j n) (only sheet.Stop (eqb left 0) x)
-closed n x Stop = sheet.Stop
+unfoldable pub closed : ℕ → Read Judged → Place → Read Judged
+closed n x (At j left) = only notSound (eqb j n) (only notSound (eqb left 0) x)
+closed n x Stop = notSound
 
-closed-thru : {A : Type 0} (n : ℕ) (x : SheetJudged) (g : Got A) (k : A → ℕ → Place) →
-    closed n x (thru Stop g k) ≡ thru sheet.Stop g (λ v j. closed n x (k v j))
+closed-thru : {A : Type 0} (n : ℕ) (x : Read Judged) (g : Got A) (k : A → ℕ → Place) →
+    closed n x (thru Stop g k) ≡ thru notSound g (λ v j. closed n x (k v j))
 unfolding closed thru
 closed-thru n x (got v j) k = refl
 closed-thru n x (stop c i) k = refl
 
-closed-only : (n : ℕ) (x : SheetJudged) (b : Bool) (o : Place) → closed n x (only Stop b o) ≡ only sheet.Stop b (closed n x o)
+closed-only : (n : ℕ) (x : Read Judged) (b : Bool) (o : Place) → closed n x (only Stop b o) ≡ only notSound b (closed n x o)
 unfolding closed only
 closed-only n x true o = refl
 closed-only n x false o = refl
 
-closed-at : (n : ℕ) (x : SheetJudged) (j left : ℕ) → closed n x (At j left) ≡ only sheet.Stop (eqb j n) (only sheet.Stop (eqb left 0) x)
+closed-at : (n : ℕ) (x : Read Judged) (j left : ℕ) → closed n x (At j left) ≡ only notSound (eqb j n) (only notSound (eqb left 0) x)
 unfolding closed
 closed-at n x j left = refl
 
 ended : {P : Type 0} (r : Frame) (d : Dec P) →
-    summary (choose d (some r) none) ≡ only sheet.Stop (holds d) (sheet.Passed record { class = classIn r; pool = poolLength r })
+    summary (choose d (some r) none) ≡ only notSound (holds d) (accepted record { class = classIn r; pool = poolLength r })
 unfolding summary choose only holds
 ended r (yes h) = refl
 ended r (no h) = refl
 
 -- What is told of a frame that ends at the last word.
 ending-thru : (n : ℕ) (g : Got Frame) →
-    summary (endingAt n g) ≡ thru sheet.Stop g (λ r j. only sheet.Stop (eqb j n) (sheet.Passed record { class = classIn r; pool = poolLength r }))
+    summary (endingAt n g) ≡ thru notSound g (λ r j. only notSound (eqb j n) (accepted record { class = classIn r; pool = poolLength r }))
 unfolding endingAt thru summary
 ending-thru n (stop c k) = refl
 ending-thru n (got r j) = ended r (ℕ-discrete j n) ∙ rw holds-eq
@@ -111,26 +111,26 @@ unfolding only
 only-yes z x = refl
 
 -- A test that fails behind all that could pass.
-only-never : (b : Bool) (x : SheetJudged) → (b ≡ true → x ≡ sheet.Stop) → only sheet.Stop b x ≡ sheet.Stop
+only-never : (b : Bool) (x : Read Judged) → (b ≡ true → x ≡ notSound) → only notSound b x ≡ notSound
 unfolding only
 only-never true x f = f refl
 only-never false x f = refl
 
-module _ (a b d pool j n : ℕ) (x : SheetJudged) where
+module _ (a b d pool j n : ℕ) (x : Read Judged) where
   -- Lengths that are taken one after the other, with nothing left ..
-  abbrev lengths : SheetJudged
+  abbrev lengths : Read Judged
   lengths =
-      only sheet.Stop (leb a pool) (only sheet.Stop (leb b (pool - a)) (only sheet.Stop (leb d (pool - a - b))
-      (only sheet.Stop (eqb j n) (only sheet.Stop (eqb (pool - a - b - d) 0) x))))
+      only notSound (leb a pool) (only notSound (leb b (pool - a)) (only notSound (leb d (pool - a - b))
+      (only notSound (eqb j n) (only notSound (eqb (pool - a - b - d) 0) x))))
 
   -- .. are the pool's length in sum ..
-  lengths-all : a + (b + d) ≡ pool → lengths ≡ only sheet.Stop (eqb j n) x
+  lengths-all : a + (b + d) ≡ pool → lengths ≡ only notSound (eqb j n) x
   unfolding only
   lengths-all e =
       rw (le-leb a pool (omega arith), le-leb b (pool - a) (omega arith), le-leb d (pool - a - b) (omega arith), eq-eqb (pool - a - b - d) 0 (omega arith))
 
   -- .. and else not.
-  lengths-not : ¬ (a + (b + d) ≡ pool) → lengths ≡ sheet.Stop
+  lengths-not : ¬ (a + (b + d) ≡ pool) → lengths ≡ notSound
   lengths-not f =
       only-never (leb a pool) _ (λ h₁. only-never (leb b (pool - a)) _ (λ h₂. only-never (leb d (pool - a - b)) _ (λ h₃.
       only-never (eqb j n) _ (λ h₄. only-never (eqb (pool - a - b - d) 0) x (λ h₅.
@@ -148,9 +148,9 @@ holds-no (no h) n = refl
 -- A frame's demands, where the producer is inside.
 module _ (r : Frame) (a b d pool j n : ℕ) (c : VersionClass) (e : a + (b + d) ≡ poolLength r) (k : classIn r ≡ c)
     (i : Inside (r .producer) (length (r .strings))) where
-  leaf : lengths a b d pool j n (sheet.Passed record { class = c; pool = pool }) ≡
-      only sheet.Stop (holds (both? (ℕ-discrete (poolLength r) pool) (inside? (r .producer) (length (r .strings)))))
-      (only sheet.Stop (eqb j n) (sheet.Passed record { class = classIn r; pool = poolLength r }))
+  leaf : lengths a b d pool j n (accepted record { class = c; pool = pool }) ≡
+      only notSound (holds (both? (ℕ-discrete (poolLength r) pool) (inside? (r .producer) (length (r .strings)))))
+      (only notSound (eqb j n) (accepted record { class = classIn r; pool = poolLength r }))
   unfolding only
   leaf =
       elim (ℕ-discrete (poolLength r) pool) [
@@ -216,14 +216,14 @@ module _ (l : List ℕ) (h : 19 ≤ length l) (head : Head l) where
 
   -- The tables end with the sheet, and take its pool's length: that is its frame.
   tables-judged :
-      closed (length l) (sheet.Passed record { class = classAt; pool = getD l 4 0 }) (tablesAfter classAt l (At 19 (getD l 4 0))) ≡
+      closed (length l) (accepted record { class = classAt; pool = getD l 4 0 }) (tablesAfter classAt l (At 19 (getD l 4 0))) ≡
       summary (endingAt (length l) (frameAt l 0))
   unfolding tablesAfter tablesAt poolLength
   tables-judged =
       simp (strings-at, types-at, constants-at, globals-at, functions-at, attributes-at, lists-at, table-thru, table-only, closed-thru, closed-only, closed-at, only-thru, ending-thru, frame-read l h, version-true l head, only-yes, thru-bind, thru-map)
-      (thru-with sheet.Stop _ _ _ (λ ss j₀ e. thru-same sheet.Stop _ _ _ (λ ts j₁. thru-same sheet.Stop _ _ _ (λ ks j₂.
-      thru-same sheet.Stop _ _ _ (λ gs j₃. thru-same sheet.Stop _ _ _ (λ fs j₄. thru-same sheet.Stop _ _ _ (λ ds j₅.
-      thru-same sheet.Stop _ _ _ (λ ls j₆.
+      (thru-with notSound _ _ _ (λ ss j₀ e. thru-same notSound _ _ _ (λ ts j₁. thru-same notSound _ _ _ (λ ks j₂.
+      thru-same notSound _ _ _ (λ gs j₃. thru-same notSound _ _ _ (λ fs j₄. thru-same notSound _ _ _ (λ ds j₅.
+      thru-same notSound _ _ _ (λ ls j₆.
       leaf
       record {
         version = versionIn l h;
@@ -240,11 +240,11 @@ module _ (l : List ℕ) (h : 19 ≤ length l) (head : Head l) where
       (inside ss (strings-counted (contents l) l 19 ss j₀ e))))))))))
 
 -- What the judge refuses is no sheet of a frame.
-none-if : (l : List ℕ) → ((r : Frame) → judged l ≡ some r → ⊥) → sheet.Stop ≡ summary (judged l)
+none-if : (l : List ℕ) → ((r : Frame) → judged l ≡ some r → ⊥) → notSound ≡ summary (judged l)
 unfolding summary
 none-if l f = go (judged l) refl
   where
-    go : (o : Option Frame) → judged l ≡ o → sheet.Stop ≡ summary o
+    go : (o : Option Frame) → judged l ≡ o → notSound ≡ summary o
     go none e = refl
     go (some r) e = absurd (f r e)
 
@@ -263,19 +263,19 @@ frame-head r s =
     at-most none n i = omega arith
     at-most (some index) n i = omega (arith, i)
 
-ends-none : (l : List ℕ) (c : VersionClass) (n : ℕ) (x : SheetJudged) → closed n x (tablesAfter c l Stop) ≡ sheet.Stop
+ends-none : (l : List ℕ) (c : VersionClass) (n : ℕ) (x : Read Judged) → closed n x (tablesAfter c l Stop) ≡ notSound
 unfolding tablesAfter closed
 ends-none l c n x = simp table-none
 
 -- Words that do not fit, and too few words.
-pub head-refused : (l : List ℕ) → headFits l ≡ false → sheet.Stop ≡ summary (judged l)
+pub head-refused : (l : List ℕ) → headFits l ≡ false → notSound ≡ summary (judged l)
 head-refused l e =
     none-if l (λ r q.
     let x = judged-exact l r .0 q in
     let t : headFits l ≡ true = rw (x .0) (frame-head r (x .2)) in
     no-true (sym e ∙ t))
 
-few-refused : (l : List ℕ) → length l < 19 → sheet.Stop ≡ summary (judged l)
+few-refused : (l : List ℕ) → length l < 19 → notSound ≡ summary (judged l)
 few-refused l h =
     none-if l (λ r q.
     let n : length l ≡ length (wordsOf r) = ap length (judged-exact l r .0 q .0) in
@@ -300,7 +300,7 @@ module _ (s : List ℕ) (bytes : (i : ℕ) → getD s i 0 < 256) where
 
   abbrev Answer : Place → Type 0
   Answer first =
-      closed (length (wordsIn s)) (sheet.Passed record { class = class₀; pool = getD (wordsIn s) 4 0 }) (tablesAfter class₀ (wordsIn s) first) ≡
+      closed (length (wordsIn s)) (accepted record { class = class₀; pool = getD (wordsIn s) 4 0 }) (tablesAfter class₀ (wordsIn s) first) ≡
       summary (judged (wordsIn s))
 
   pub judged-tables : headFits (wordsIn s) ≡ true → Answer (kept (raw 19) (wordsIn s) (At 0 (getD (wordsIn s) 4 0)))
@@ -319,7 +319,7 @@ pub whole-words : (s : List ℕ) → length s % 8 ≡ 0 → judgedBytes s ≡ ju
 unfolding judgedBytes
 whole-words s e = choose-yes (ℕ-discrete (length s % 8) 0) _ _ e
 
-pub part-words : (s : List ℕ) → ¬ (length s % 8 ≡ 0) → sheet.Stop ≡ summary (judgedBytes s)
+pub part-words : (s : List ℕ) → ¬ (length s % 8 ≡ 0) → notSound ≡ summary (judgedBytes s)
 unfolding judgedBytes summary
 part-words s n = rw (choose-no (ℕ-discrete (length s % 8) 0) (judged (wordsIn s)) none n)
 
@@ -354,22 +354,22 @@ module _ (l : List ℕ) where
 module _ (s : List ℕ) (bytes : (i : ℕ) → getD s i 0 < 256) (whole : length s % 8 ≡ 0) (fits : headFits (wordsIn s) ≡ true)
     {class : VersionClass} {pool : ℕ} {first tables : Place} (a : class ≡ classOf (getD (wordsIn s) 0 0) (getD (wordsIn s) 1 0))
     (b : pool ≡ getD (wordsIn s) 4 0) (c : first ≡ kept (raw 19) (wordsIn s) (At 0 pool)) (d : tables ≡ tablesAfter class (wordsIn s) first) where
-  answer : closed (length s / 8) (sheet.Passed record { class = class; pool = pool }) tables ≡ summary (judgedBytes s)
+  answer : closed (length s / 8) (accepted record { class = class; pool = pool }) tables ≡ summary (judgedBytes s)
   answer = rw (d, c, a, b, ← length-wordsIn s) (judged-tables s bytes fits ∙ sym (ap summary (whole-words s whole)))
 
-  pub not-ended : tables ≡ Stop → sheet.Stop ≡ summary (judgedBytes s)
+  pub not-ended : tables ≡ Stop → notSound ≡ summary (judgedBytes s)
   unfolding closed
   not-ended e = rw (← answer, e)
 
-  pub not-last : {j left : ℕ} → tables ≡ At j left → ¬ (j ≡ length s / 8) → sheet.Stop ≡ summary (judgedBytes s)
+  pub not-last : {j left : ℕ} → tables ≡ At j left → ¬ (j ≡ length s / 8) → notSound ≡ summary (judgedBytes s)
   unfolding closed only
   not-last {j} e n = rw (← answer, e, ne-eqb j (length s / 8) n)
 
-  pub not-spent : {j left : ℕ} → tables ≡ At j left → j ≡ length s / 8 → ¬ (left ≡ 0) → sheet.Stop ≡ summary (judgedBytes s)
+  pub not-spent : {j left : ℕ} → tables ≡ At j left → j ≡ length s / 8 → ¬ (left ≡ 0) → notSound ≡ summary (judgedBytes s)
   unfolding closed only
   not-spent {j} {left} e n m = rw (← answer, e, eq-eqb j (length s / 8) n, ne-eqb left 0 m)
 
   pub all-judged : {j left : ℕ} → tables ≡ At j left → j ≡ length s / 8 → left ≡ 0 →
-      sheet.Passed record { class = class; pool = pool } ≡ summary (judgedBytes s)
+      accepted record { class = class; pool = pool } ≡ summary (judgedBytes s)
   unfolding closed only
   all-judged {j} {left} e n m = rw (← answer, e, eq-eqb j (length s / 8) n, eq-eqb left 0 m)

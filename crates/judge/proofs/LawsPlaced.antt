@@ -11,6 +11,7 @@ use lib.ListN.{length, take, drop, getD, length-append, List·getD-append}
 use lib.Seq.{drop-drop, drop-at}
 use Rattle.exact.specs.Choice.{choose}
 use Rattle.exact.specs.Tiling.{join}
+use Rattle.format.specs.Read.{accepted}
 use Rattle.format.specs.Sheet.{Frame, bodies, contents, poolLength, wordsOf}
 use Rattle.format.specs.Sound.{All, Fits, SoundFrame, classIn}
 use Rattle.format.specs.Judge.{judged}
@@ -19,11 +20,17 @@ use Rattle.sheet.specs.Store.{wordsIn}
 use Rattle.judge.specs.declared.Judged.{Judged}
 use Rattle.judge.specs.declared.SheetJudged.{SheetJudged}
 use Rattle.judge.specs.declared.SheetJudged.the-variants as sheet
-use Rattle.judge.specs.Judge.{judgedBytes, summary}
+use Rattle.judge.specs.Judge.{judgedBytes, notSound, judgedRead, summary}
 
 -- Any two answers that the contract of `judge` allows are equal.
-pub judge-only : (s : List ℕ) (x y : SheetJudged) → x ≡ summary (judgedBytes s) → y ≡ summary (judgedBytes s) → x ≡ y
-judge-only s x y e f = e ∙ sym f
+pub judge-only : (s : List ℕ) (x y : SheetJudged) → judgedRead x ≡ summary (judgedBytes s) → judgedRead y ≡ summary (judgedBytes s) → x ≡ y
+judge-only s x y e f = go x y (e ∙ sym f)
+  where
+    go : (x y : SheetJudged) → judgedRead x ≡ judgedRead y → x ≡ y
+    go (sheet.Passed i) (sheet.Passed j) e = cc
+    go (sheet.Passed i) sheet.Stop e = cc
+    go sheet.Stop (sheet.Passed j) e = cc
+    go sheet.Stop sheet.Stop e = refl
 
 -- A store whose sheet passed holds whole words, those of a well-formed frame.
 pub record Holds (s : List ℕ) (r : Frame) : Type 0 where
@@ -40,6 +47,10 @@ judged-holds s r = go (ℕ-discrete (length s % 8) 0)
     go (yes h) e = let x = judged-exact (wordsIn s) r .0 e in record { whole = h; words = x .0; fits = x .1; sound = x .2 }
     go (no h) e = absurd (Option·none-ne-some _ e)
 
+-- .. so that the words are judged ..
+pub judged-words : (s : List ℕ) (r : Frame) → judgedBytes s ≡ some r → judged (wordsIn s) ≡ some r
+judged-words s r e = let h = judged-holds s r e in judged-exact (wordsIn s) r .1 (h .words, h .fits, h .sound)
+
 -- .. and what `judge` tells is of that frame.
 pub record Passes (s : List ℕ) (j : Judged) : Type 0 where
   pub frame : Frame
@@ -47,15 +58,15 @@ pub record Passes (s : List ℕ) (j : Judged) : Type 0 where
   pub class : j .class ≡ classIn frame
   pub pool : j .pool ≡ poolLength frame
 
-stop-not-passed : {A : Type 0} {j : Judged} → sheet.Passed j ≡ sheet.Stop → A
-stop-not-passed e = let n : _≡_ {A = ℕ} 0 1 = cc in absurd (omega arith)
+not-refused : {A : Type 0} {j : Judged} → accepted j ≡ notSound → A
+not-refused e = let n : _≡_ {A = ℕ} 0 1 = cc in absurd (omega arith)
 
-pub passed-of : (s : List ℕ) (j : Judged) → sheet.Passed j ≡ summary (judgedBytes s) → Passes s j
+pub passed-of : (s : List ℕ) (j : Judged) → accepted j ≡ summary (judgedBytes s) → Passes s j
 unfolding summary
 passed-of s j = go (judgedBytes s) refl
   where
-    go : (o : Option Frame) → judgedBytes s ≡ o → sheet.Passed j ≡ summary o → Passes s j
-    go none e f = stop-not-passed f
+    go : (o : Option Frame) → judgedBytes s ≡ o → accepted j ≡ summary o → Passes s j
+    go none e f = not-refused f
     go (some r) e f =
         let k : j ≡ record { class = classIn r; pool = poolLength r } = cc in
         record { frame = r; judged = e; class = ap (λ j. j .class) k; pool = ap (λ j. j .pool) k }

@@ -8,10 +8,13 @@ use mathlib.Core.Option.{Option, none, some}
 use lib.Dec.{ltb, leb}
 use lib.ListN.{length, getD}
 use Rattle.exact.specs.Choice.{choose}
+use Rattle.enums.specs.Refusals as refusals
+use Rattle.format.specs.Read.{Read, accepted, refused}
 use Rattle.format.specs.Sheet.{Frame, poolLength}
 use Rattle.format.specs.Sound.{classIn}
 use Rattle.format.specs.Judge.{judged}
 use Rattle.sheet.specs.Store.{wordsIn}
+use Rattle.judge.specs.declared.Judged.{Judged}
 use Rattle.judge.specs.declared.SheetJudged.{SheetJudged}
 use Rattle.judge.specs.declared.SheetJudged.the-variants.{Passed, Stop}
 
@@ -19,10 +22,19 @@ use Rattle.judge.specs.declared.SheetJudged.the-variants.{Passed, Stop}
 unfoldable pub judgedBytes : List ℕ → Option Frame
 judgedBytes s = choose (ℕ-discrete (length s % 8) 0) (judged (wordsIn s)) none
 
--- What is told of it: the class of its version, and the length of its pool.
-unfoldable pub summary : Option Frame → SheetJudged
-summary none = Stop
-summary (some r) = Passed record { class = classIn r; pool = poolLength r }
+-- A sheet that is not well-formed is refusal 12, at stage 10, as of all writing; it names no place.
+abbrev pub notSound : Read Judged
+notSound = refused refusals.unsound refusals.atCall 0
+
+-- What an answer means.
+abbrev pub judgedRead : SheetJudged → Read Judged
+judgedRead (Passed j) = accepted j
+judgedRead Stop = notSound
+
+-- What is told of a frame: the class of its version, and the length of its pool.
+unfoldable pub summary : Option Frame → Read Judged
+summary none = notSound
+summary (some r) = accepted record { class = classIn r; pool = poolLength r }
 
 -- Words 0 to 3 fit: major and minor a byte, the tag two, and the producer is inside the strings, which word 6 counts.
 unfoldable pub headFits : List ℕ → Bool

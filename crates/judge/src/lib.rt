@@ -9,7 +9,7 @@ ghost use mathlib.Core.Bool.{true};
 ghost use lib.ListN.{getD};
 ghost use Rattle.enums.specs.Version.{classOf};
 ghost use Rattle.sheet.specs.Store.{wordsIn};
-ghost use Rattle.judge.specs.Judge.{judgedBytes, summary, headFits};
+ghost use Rattle.judge.specs.Judge.{judgedBytes, judgedRead, summary, headFits};
 use enums::BytecodeVersion;
 use enums::VersionClass;
 use steps::Place;
@@ -65,7 +65,7 @@ fn class_of(sheet: &[u8]) -> VersionClass
 // Judges the sheet in a store; one that isn't whole words is refused. Words 0 to 3 are judged before the tables are
 // followed, and the tables have to end where the sheet does, with nothing left of word 4.
 pub fn judge(sheet: &[u8]) -> SheetJudged
-    ensures { λ r. ⌜ r ≡ summary (judgedBytes (now (sheet .entry))) ⌝ }
+    ensures { λ r. ⌜ judgedRead r ≡ summary (judgedBytes (now (sheet .entry))) ⌝ }
 {
     if sheet.len() % 8 != 0 {
         return SheetJudged::Stop;

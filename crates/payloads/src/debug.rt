@@ -25,18 +25,15 @@ use crate::tables::Starts;
 use crate::tables::StartsRead;
 use crate::tables::place_starts;
 use crate::tables::start_at;
+use enums::BytePosition;
 use enums::DebugTag;
+use enums::IdPosition;
 use enums::Refusal;
 use reading::ByteRead;
 use reading::NumRead;
 use reading::PaddingRead;
 use reading::Reader;
 use reading::Refused;
-
-// Starts counted in ids and starts counted in bytes are two units.
-pub struct IdPosition(pub usize);
-
-pub struct BytePosition(pub usize);
 
 // How many attributes and lists were read, and how far the stores are filled with them.
 pub enum DebugRead {

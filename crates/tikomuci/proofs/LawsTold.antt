@@ -15,15 +15,13 @@ use Rattle.format.specs.Judge.{withPool}
 use Rattle.format.specs.Read.{Read, accepted, refused}
 use Rattle.format.specs.Refusals.{Listed}
 use Rattle.format.specs.Views.{Span}
-use Rattle.format.specs.Write.{Writing, writes, refuses, mostWords, starts32?, imaged}
+use Rattle.format.specs.Write.{Writing, writes, refuses, mostWords, starts32?, imaged, blank}
 use Rattle.format.proofs.Refused.{refused-some}
 use Rattle.judge.specs.Judge.{judgedBytes}
 use Rattle.sheet.specs.Store.{wordsIn}
 use Rattle.payloads.specs.declared.Need.{Need}
-use Rattle.writer.specs.Writes.{inRoom}
-use Rattle.writer.specs.Written.{writing}
-use Rattle.writer.specs.declared.Imaged.{Imaged}
-use Rattle.writer.specs.declared.Imaged.the-variants as told
+use Rattle.images.specs.Written.{lengthOf, inRoom}
+use Rattle.writer.specs.Written.{writing, writingAlone}
 use Rattle.tikomuci.specs.declared.Answer.{Answer}
 use Rattle.tikomuci.specs.Files.{needed, sizeIn}
 use Rattle.tikomuci.specs.Views.{view, spanIn}
@@ -54,10 +52,6 @@ data Numbered : Writing → Type 0 where
   an-image : {bs : List ℕ} → Numbered (writes bs)
   a-number : (c : ℕ) → 0 < c → Numbered (refuses c)
 
-data Sized : Imaged → Type 0 where
-  a-size : {n : ℕ} → Sized (told.Bytes n)
-  no-size : (c : ℕ) → 0 < c → Sized (told.Refused c)
-
 numbered-choose : {Q : Type 0} (d : Dec Q) {x y : Writing} → Numbered x → Numbered y → Numbered (choose d x y)
 unfolding choose
 numbered-choose (yes h) a b = a
@@ -78,24 +72,43 @@ writing-numbered s pool =
     numbered-choose (decLe (length (wordsIn s)) mostWords)
     (numbered-choose (decLe (length pool) mostBytes) (imaged-numbered (withPool pool (judgedBytes s))) limit) limit
 
-sized-choose : {Q : Type 0} (d : Dec Q) {x y : Imaged} → Sized x → Sized y → Sized (choose d x y)
+alone-numbered : (s : List ℕ) → Numbered (writingAlone s)
+unfolding writingAlone
+alone-numbered s =
+    numbered-choose (decLe (length (wordsIn s)) mostWords) (imaged-numbered (blank (judgedBytes s))) (a-number refusals.limit (omega arith))
+
+-- An answer of a call that writes is a size, or has a number.
+data Sized : Read ℕ → Type 0 where
+  a-size : {n : ℕ} → Sized (accepted n)
+  no-size : (c k i : ℕ) → 0 < c → Sized (refused c k i)
+
+sized-choose : {Q : Type 0} (d : Dec Q) {x y : Read ℕ} → Sized x → Sized y → Sized (choose d x y)
 unfolding choose
 sized-choose (yes h) a b = a
 sized-choose (no h) a b = b
 
 room-sized : (n : ℕ) {w : Writing} → Numbered w → Sized (inRoom n w)
 unfolding inRoom
-room-sized n (an-image {bs}) = sized-choose (decLe (length bs) n) a-size (no-size refusals.full (omega arith))
-room-sized n (a-number c h) = no-size c h
+room-sized n (an-image {bs}) = sized-choose (decLe (length bs) n) a-size (no-size refusals.full _ _ (omega arith))
+room-sized n (a-number c h) = no-size c _ _ h
 
-pub size-told : (s pool : List ℕ) (n : ℕ) (r : Answer) → r ≡ size (inRoom n (writing s pool)) → r .refusal ≡ 0 →
-    inRoom n (writing s pool) ≡ told.Bytes (r .first)
-size-told s pool n r e z = go (room-sized n (writing-numbered s pool)) e
-  where
-    go : {x : Imaged} → Sized x → r ≡ size x → x ≡ told.Bytes (r .first)
-    go a-size e = ap (λ a. told.Bytes (a .first)) (sym e)
-    go (no-size c h) e = let q = ap (λ a. a .refusal) e in absurd (omega arith)
+length-sized : {w : Writing} → Numbered w → Sized (lengthOf w)
+unfolding lengthOf
+length-sized (an-image {bs}) = a-size
+length-sized (a-number c h) = no-size c _ _ h
 
-pub size-refused : (x : Imaged) (r : Answer) → r ≡ size x → 0 < r .refusal → (c : ℕ) × (x ≡ told.Refused c)
-size-refused (told.Bytes n) r e z = let q = ap (λ a. a .refusal) e in absurd (omega arith)
-size-refused (told.Refused c) r e z = (c, refl)
+size-told : (r : Answer) {x : Read ℕ} → Sized x → r ≡ size x → r .refusal ≡ 0 → x ≡ accepted (r .first)
+size-told r a-size e z = ap (λ a. accepted (a .first)) (sym e)
+size-told r (no-size c k i h) e z = let q = ap (λ a. a .refusal) e in absurd (omega arith)
+
+pub room-told : (s pool : List ℕ) (n : ℕ) (r : Answer) → r ≡ size (inRoom n (writing s pool)) → r .refusal ≡ 0 →
+    inRoom n (writing s pool) ≡ accepted (r .first)
+room-told s pool n r e z = size-told r (room-sized n (writing-numbered s pool)) e z
+
+pub length-told : (s : List ℕ) (r : Answer) → r ≡ size (lengthOf (writingAlone s)) → r .refusal ≡ 0 →
+    lengthOf (writingAlone s) ≡ accepted (r .first)
+length-told s r e z = size-told r (length-sized (alone-numbered s)) e z
+
+pub size-refused : (x : Read ℕ) (r : Answer) → r ≡ size x → 0 < r .refusal → (c : ℕ) × (n : ℕ) × (i : ℕ) × (x ≡ refused c n i)
+size-refused (accepted n) r e z = let q = ap (λ a. a .refusal) e in absurd (omega arith)
+size-refused (refused c n i) r e z = (c, n, i, refl)

@@ -4,6 +4,7 @@ use mathlib.Core.Path.{_≡_}
 use Prim.Native.Nat.{ℕ, _%_, _≤_, _<_}
 use mathlib.Core.List.{List}
 use lib.ListN.{length}
+use Rattle.format.specs.Read.{Read, accepted, refused}
 use Rattle.format.specs.Tables.{Tables}
 use Rattle.format.specs.Decode.{mostBytes}
 use Rattle.format.specs.Sheet.{sheetOf, poolOf}
@@ -11,17 +12,15 @@ use Rattle.format.specs.Sound.{Sound}
 use Rattle.format.specs.Image.{image}
 use Rattle.format.specs.Write.{mostWords}
 use Rattle.sheet.specs.Store.{wordsIn}
-use Rattle.writer.specs.Writes.{lengthOf, inRoom, withImage}
-use Rattle.writer.specs.Written.{writing, writingAlone, Kept}
-use Rattle.writer.specs.declared.Imaged.{Imaged}
-use Rattle.writer.specs.declared.Imaged.the-variants as told
+use Rattle.images.specs.Written.{lengthOf, inRoom, withImage}
+use Rattle.writer.specs.Written.{writing, writingAlone, Kept, Sized}
 use Rattle.tikomuci.specs.declared.Answer.{Answer}
 use Rattle.tikomuci.specs.Boundary as boundary
 
--- The length of the image; or the refusal's number.
-abbrev pub size : Imaged → Answer
-size (told.Bytes n) = boundary.accepted n 0
-size (told.Refused c) = boundary.refusedAs c
+-- The length of the image; or the refusal's number and its stage, and no other data.
+abbrev pub size : Read ℕ → Answer
+size (accepted n) = boundary.accepted n 0
+size (refused c stage at) = record { refusal = c; stage = stage; first = 0; second = 0 }
 
 -- Writing into the output out, which it leaves as out'.
 pub record SheetWritten (s pool out out' : List ℕ) (r : Answer) : Type 0 where
@@ -34,8 +33,12 @@ pub record SheetWritten (s pool out out' : List ℕ) (r : Answer) : Type 0 where
   -- .. and that of all well-formed tables within the limits is, if it fits.
   pub complete : (t : Tables) → Sound t → length s % 8 ≡ 0 → wordsIn s ≡ sheetOf t → pool ≡ poolOf t →
       length (sheetOf t) ≤ mostWords → length (poolOf t) ≤ mostBytes → length (image t) ≤ mostBytes → length (image t) ≤ length out →
-      r ≡ size (told.Bytes (length (image t)))
+      r ≡ size (accepted (length (image t)))
 
--- The length of what would be written.
+-- The length of what would be written: with refusal 0 that of the image of tables whose sheet was handed, and of all
+-- well-formed tables within the limits.
 pub record SheetImaged (s : List ℕ) (r : Answer) : Type 0 where
   pub answer : r ≡ size (lengthOf (writingAlone s))
+  pub sound : r .refusal ≡ 0 → Sized s (r .first)
+  pub complete : (t : Tables) → Sound t → length s % 8 ≡ 0 → wordsIn s ≡ sheetOf t → length (sheetOf t) ≤ mostWords →
+      length (image t) ≤ mostBytes → r ≡ size (accepted (length (image t)))

@@ -8,6 +8,7 @@ use encoding::Patched;
 use encoding::Written;
 use enums::Refusal;
 use enums::Stage;
+use images::Imaged;
 use reading::ByteRead;
 use reading::BytesRead;
 use reading::I32Read;
@@ -18,7 +19,6 @@ use reading::PaddingRead;
 use reading::Reader;
 use reading::U16Read;
 use reading::U32Read;
-use writer::Imaged;
 ghost use mathlib.Core.Path.{_≡_};
 ghost use Prim.Native.Nat.{_-_};
 ghost use native.Mathlib.Decide.{decLe};
@@ -45,6 +45,7 @@ ghost use Rattle.payloads.specs.Whole.{fileRead};
 ghost use Rattle.tikomuci.specs.Boundary.{abi, accepted, refusedAs, Puts, Writes, WritesFloat, Patches, nextPlace, nextAligned, number, signedNumber, reached, run, runOf, items, itemsOf, skipped};
 ghost use Rattle.tikomuci.specs.Views.{view, SectionViewed, RowViewed};
 ghost use Rattle.tikomuci.specs.Files.{needed, Measured, FileDone};
+ghost use Rattle.images.specs.Written.{imageSize};
 ghost use Rattle.tikomuci.specs.Sheets.{size, SheetWritten, SheetImaged};
 
 const ABI: u64 = 1;
@@ -709,7 +710,7 @@ pub extern "C" fn tikomuci_body(file: &[u8], index: u64) -> Answer
 
 // How long an image is.
 fn sized(image: Imaged) -> Answer
-    ensures { λ a. ⌜ a ≡ size image ⌝ }
+    ensures { λ a. ⌜ a ≡ size (imageSize image) ⌝ }
 {
     match image {
         Imaged::Bytes(bytes) => Answer::accept(bytes as u64, 0),

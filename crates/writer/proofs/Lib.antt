@@ -1,2 +1,3 @@
-pub mod LawsWrites
 pub mod LawsWriting
+pub mod LawsSized
+pub mod LawsAlike

@@ -10,18 +10,17 @@ use Rattle.encoding.specs.Out.{put}
 use Rattle.enums.specs.Refusals as refusals
 use Rattle.format.specs.Tables.{Tables}
 use Rattle.format.specs.Explains.{Explains}
-use Rattle.format.specs.Read.{accepted}
+use Rattle.format.specs.Read.{accepted, refused}
 use Rattle.format.specs.Decode.{mostBytes, decode}
 use Rattle.format.specs.Sheet.{sheetOf, poolOf}
 use Rattle.format.specs.Sound.{Sound}
 use Rattle.format.specs.Judge.{withPool}
 use Rattle.format.specs.Image.{image}
-use Rattle.format.specs.Write.{Writing, writes, refuses, mostWords, imaged, blank}
+use Rattle.format.specs.Write.{Writing, refuses, mostWords, imaged, blank}
 use Rattle.sheet.specs.Store.{wordsIn}
 use Rattle.judge.specs.Judge.{judgedBytes}
-use Rattle.writer.specs.Writes.{lengthOf, inRoom, withImage}
-use Rattle.writer.specs.declared.Imaged.{Imaged}
-use Rattle.writer.specs.declared.Imaged.the-variants as told
+use Rattle.images.specs.Written.{imageSize, lengthOf, inRoom, withImage}
+use Rattle.images.specs.declared.Imaged.{Imaged}
 
 -- What is written of a sheet in a store and its pool.
 unfoldable pub writing : List ℕ → List ℕ → Writing
@@ -49,17 +48,29 @@ pub record Kept (s pool out out' : List ℕ) (n : ℕ) : Type 0 where
 
 -- What `write` promises of the output out, which it leaves as out'.
 pub record WritePost (s pool out out' : List ℕ) (r : Imaged) : Type 0 where
-  pub answer : r ≡ inRoom (length out) (writing s pool)
+  pub answer : imageSize r ≡ inRoom (length out) (writing s pool)
   pub output : out' ≡ withImage out (writing s pool)
   -- A refused call has changed nothing.
-  pub unchanged : (c : ℕ) → r ≡ told.Refused c → out' ≡ out
+  pub unchanged : (c n i : ℕ) → imageSize r ≡ refused c n i → out' ≡ out
   -- Only the image of the tables that were handed is written ..
-  pub written : (n : ℕ) → r ≡ told.Bytes n → Kept s pool out out' n
+  pub written : (n : ℕ) → imageSize r ≡ accepted n → Kept s pool out out' n
   -- .. and that of all well-formed tables within the limits is, if it fits.
   pub complete : (t : Tables) → Sound t → length s % 8 ≡ 0 → wordsIn s ≡ sheetOf t → pool ≡ poolOf t →
       length (sheetOf t) ≤ mostWords → length (poolOf t) ≤ mostBytes → length (image t) ≤ mostBytes → length (image t) ≤ length out →
-      r ≡ told.Bytes (length (image t))
+      imageSize r ≡ accepted (length (image t))
 
--- What `image` promises: the length of what would be written, or its refusal.
+-- The sheet is that of well-formed tables, and the image of these is n bytes long, whatever their pool holds.
+pub record Sized (s : List ℕ) (n : ℕ) : Type 0 where
+  pub tables : Tables
+  pub sound : Sound tables
+  pub its-sheet : wordsIn s ≡ sheetOf tables
+  pub size : (u : Tables) → Sound u → wordsIn s ≡ sheetOf u → n ≡ length (image u)
+
+-- What `image` promises.
 pub record ImagePost (s : List ℕ) (r : Imaged) : Type 0 where
-  pub answer : r ≡ lengthOf (writingAlone s)
+  pub answer : imageSize r ≡ lengthOf (writingAlone s)
+  -- Only the length of the image of tables whose sheet was handed is answered ..
+  pub sound : (n : ℕ) → imageSize r ≡ accepted n → Sized s n
+  -- .. and that of all well-formed tables within the limits is.
+  pub complete : (t : Tables) → Sound t → length s % 8 ≡ 0 → wordsIn s ≡ sheetOf t → length (sheetOf t) ≤ mostWords →
+      length (image t) ≤ mostBytes → imageSize r ≡ accepted (length (image t))

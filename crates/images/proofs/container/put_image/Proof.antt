@@ -5,9 +5,6 @@ use borrow.Author.Needs.{needs}
 use Rattle.images.proofs.container.put_image.Statement.{statement}
 use Rattle.images.proofs.container.put_image.Tie as tie
 
-class-of-requires : tie.Need-class-of-requires
-class-of-requires c κs = search needs
-
 put-header-requires : tie.Need-put-header-requires
 put-header-requires c κs = search needs
 
@@ -37,17 +34,16 @@ put-byte-requires c κs = search needs
 
 same-length : tie.Need-same-length
 same-length c =
-    omega (arith, c .before .before .before .before .before .before .before .before .before .before .before .before .before .before .before .before .before .before .before .before .before .before .before .before .before .before .before .before .before .before .before .before .before .out .given, c .before .before .before .before .before .before .before .before .before .before .before .before .before .before .before .before .before .before .before .before .before .before .before .before .before .before .before .before .before .out2 .given, c .before .before .before .before .before .before .before .before .before .before .before .before .before .before .before .before .before .before .before .before .before .before .before .before .before .out3 .given, c .before .before .before .before .before .before .before .before .before .before .before .before .before .before .before .before .before .before .before .before .before .out4 .given, c .before .before .before .before .before .before .before .before .before .before .before .before .before .before .before .before .before .out5 .given, c .before .before .before .before .before .before .before .before .before .before .before .before .before .out6 .given, c .before .before .before .before .before .before .before .before .before .out7 .given, c .before .before .before .before .before .out8 .given, c .before .out9 .given)
+    omega (arith, c .before .out9 .given, c .before .before .before .before .before .out8 .given, c .before .before .before .before .before .before .before .before .before .out7 .given, c .before .before .before .before .before .before .before .before .before .before .before .before .before .out6 .given, c .before .before .before .before .before .before .before .before .before .before .before .before .before .before .before .before .before .out5 .given, c .before .before .before .before .before .before .before .before .before .before .before .before .before .before .before .before .before .before .before .before .before .out4 .given, c .before .before .before .before .before .before .before .before .before .before .before .before .before .before .before .before .before .before .before .before .before .before .before .before .before .out3 .given, c .before .before .before .before .before .before .before .before .before .before .before .before .before .before .before .before .before .before .before .before .before .before .before .before .before .before .before .before .before .out2 .given, c .before .before .before .before .before .before .before .before .before .before .before .before .before .before .before .before .before .before .before .before .before .before .before .before .before .before .before .before .before .before .before .before .before .out .given)
 
 returns : tie.Need-returns
 returns c =
-    image-put (c .before .before .before .before .before .before .before .before .before .before .before .before .before .before .before .before .before .before .before .before .before .before .before .before .before .before .before .before .before .before .before .before .before .before .before .before .class-of .ensures) (c .before .before .before .before .before .before .before .before .before .before .before .before .before .before .before .before .before .before .before .before .before .before .before .before .before .before .before .before .before .before .before .before .before .before .put-header .ensures) (c .before .before .before .before .before .before .before .before .before .before .before .before .before .before .before .before .before .before .before .before .before .before .before .before .before .before .before .before .before .before .put-section .ensures) (c .before .before .before .before .before .before .before .before .before .before .before .before .before .before .before .before .before .before .before .before .before .before .before .before .before .before .put-section2 .ensures) (c .before .before .before .before .before .before .before .before .before .before .before .before .before .before .before .before .before .before .before .before .before .before .put-section3 .ensures) (c .before .before .before .before .before .before .before .before .before .before .before .before .before .before .before .before .before .before .put-section4 .ensures) (c .before .before .before .before .before .before .before .before .before .before .before .before .before .before .put-section5 .ensures) (c .before .before .before .before .before .before .before .before .before .before .put-section6 .ensures) (c .before .before .before .before .before .before .put-section7 .ensures) (c .before .before .put-byte .ensures)
+    image-put (c .before .before .before .before .before .before .before .before .before .before .before .before .before .before .before .before .before .before .before .before .before .before .before .before .before .before .before .before .before .before .before .before .before .before .put-header .ensures) (c .before .before .before .before .before .before .before .before .before .before .before .before .before .before .before .before .before .before .before .before .before .before .before .before .before .before .before .before .before .before .put-section .ensures) (c .before .before .before .before .before .before .before .before .before .before .before .before .before .before .before .before .before .before .before .before .before .before .before .before .before .before .put-section2 .ensures) (c .before .before .before .before .before .before .before .before .before .before .before .before .before .before .before .before .before .before .before .before .before .before .put-section3 .ensures) (c .before .before .before .before .before .before .before .before .before .before .before .before .before .before .before .before .before .before .put-section4 .ensures) (c .before .before .before .before .before .before .before .before .before .before .before .before .before .before .put-section5 .ensures) (c .before .before .before .before .before .before .before .before .before .before .put-section6 .ensures) (c .before .before .before .before .before .before .put-section7 .ensures) (c .before .before .put-byte .ensures)
 
 pub put-image-spec : {M : Type 1} → statement M
 put-image-spec =
     tie.close
     (tie.spec
-    class-of-requires
     put-header-requires
     put-section-requires
     put-section-requires-2

@@ -1,4 +1,4 @@
--- `put_measured` puts a payload, or counts it where nothing can be put. Assumes nothing.
+-- `put_measured` puts a payload once more where there is an output. Assumes nothing.
 use Rattle.images.proofs.LawsImage.{payload-counted}
 use borrow.Author.Needs.{needs}
 use Rattle.images.proofs.container.put_measured.Statement.{statement}
@@ -8,7 +8,7 @@ wrapping-add-usize-requires : tie.Need-wrapping-add-usize-requires
 wrapping-add-usize-requires c κs = search needs
 
 returns : tie.Need-returns
-returns c = payload-counted _ _ _ _ (c .before .before .before .before .before .pre) (c .before .if1 .taken) (c .wrapping-add-usize .ensures)
+returns c = payload-counted _ _ (c .before .before .before .before .before .pre) (c .before .if1 .taken) (c .wrapping-add-usize .ensures)
 
 put-payload-requires : tie.Need-put-payload-requires
 put-payload-requires c κs = search needs

@@ -30,7 +30,7 @@ same-length c = search needs
 
 returns : tie.Need-returns
 unfolding GoodRow rowWords rowRun rowBytes
-returns c =
+returns c v pool =
     record {
       each =
           λ a h.

@@ -38,7 +38,7 @@ same-length c =
 
 returns : tie.Need-returns
 unfolding GoodRow rowWords rowRun rowBytes functionRowOf functionWords functionBytes bytesAs
-returns c =
+returns c v =
     record {
       each =
           λ f h.

@@ -42,8 +42,8 @@ same-length c =
 
 returns : tie.Need-returns
 unfolding GoodRow rowWords rowRun rowBytes globalWords globalBytes
-returns c =
-    let since = since3? (c .before .before .before .before .before .before .before .before .before .before .before .before .before .before .before .before .before .before .before .before .before .before .before .before .before .before .before .before .before .args .«class») in
+returns c pool =
+    let since = since3? (c .before .before .before .before .before .before .before .before .before .before .before .before .before .before .before .before .before .before .before .before .before .before .before .before .before .before .before .before .args .«class») in
     record {
       each =
           λ g h.

@@ -22,7 +22,7 @@ same-length c = search needs
 
 returns : tie.Need-returns
 unfolding rowWords rowRun rowBytes
-returns c =
+returns c v pool =
     record {
       each =
           λ ids h.

@@ -45,7 +45,7 @@ same-length c = search needs
 
 returns : tie.Need-returns
 returns c =
-    rw (c .before .before .before .before .enum-told .given .1) (c .before .before .put-run .ensures)
+    rw (c .before .before .before .before .enum-told .given .1) (c .before .before .put-run .ensures _)
 
 same-length-2 : tie.Need-same-length-2
 same-length-2 c = search needs
@@ -60,28 +60,28 @@ same-length-3 c = search needs
 
 returns-3 : tie.Need-returns-3
 returns-3 c =
-    rw (c .before .before .before .before .enum-told3 .given .1) (c .before .before .put-global .ensures)
+    rw (c .before .before .before .before .enum-told3 .given .1) (c .before .before .put-global .ensures _)
 
 same-length-4 : tie.Need-same-length-4
 same-length-4 c = search needs
 
 returns-4 : tie.Need-returns-4
 returns-4 c =
-    rw (c .before .before .before .before .enum-told4 .given .1) (c .before .before .put-function .ensures)
+    rw (c .before .before .before .before .enum-told4 .given .1) (c .before .before .put-function .ensures _)
 
 same-length-5 : tie.Need-same-length-5
 same-length-5 c = search needs
 
 returns-5 : tie.Need-returns-5
 returns-5 c =
-    rw (c .before .before .before .before .enum-told5 .given .1) (c .before .before .put-attribute .ensures)
+    rw (c .before .before .before .before .enum-told5 .given .1) (c .before .before .put-attribute .ensures _ _)
 
 same-length-6 : tie.Need-same-length-6
 same-length-6 c = search needs
 
 returns-6 : tie.Need-returns-6
 returns-6 c =
-    rw (c .before .before .before .before .enum-told6 .given .1) (c .before .before .put-list .ensures)
+    rw (c .before .before .before .before .enum-told6 .given .1) (c .before .before .put-list .ensures _ _)
 
 pub put-row-spec : {M : Type 1} → statement M
 put-row-spec =

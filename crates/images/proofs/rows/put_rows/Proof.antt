@@ -1,23 +1,21 @@
--- `put_rows` puts as many rows as are asked for: whatever putting the rest leaves, putting them all leaves it.
--- Assumes nothing.
+-- `put_rows` puts the rows of a table: whatever putting the rest leaves, putting them all leaves it. Assumes nothing.
 use mathlib.Core.Path.{_≡_, refl}
-use Prim.Native.Nat.{ℕ}
 use mathlib.Core.List.{List}
+use Prim.Native.Nat.{ℕ}
 use lib.ListN.{length}
-use Rattle.images.specs.Rows.{RowsCopied}
 use Rattle.images.specs.declared.fields.Pen.{Pen}
-use Rattle.images.proofs.LawsRows.{rows-none, rows-more}
+use Rattle.images.proofs.LawsRows.{RowsCopied, rows-none, rows-more, rows-put}
 use borrow.Author.Needs.{needs}
 use Rattle.images.proofs.rows.put_rows.Statement.{statement}
 use Rattle.images.proofs.rows.put_rows.Tie as tie
 
 abbrev Inv-loop : tie.InvT-loop
-Inv-loop sheet pool class row count out₀ next₀ left₀ out next left =
-    ((out' : List ℕ) (r : Pen) → RowsCopied «class» row left sheet pool next out out' r → RowsCopied «class» row count sheet pool next₀ out₀ out' r) ×
+Inv-loop sheet pool class out₀ pen row next₀ left₀ out next left =
+    ((out' : List ℕ) (r : Pen) → RowsCopied «class» row left sheet pool next out out' r → RowsCopied «class» row left₀ sheet pool next₀ out₀ out' r) ×
     (length out ≡ length out₀)
 
 abbrev μ-loop : tie.MeasureT-loop
-μ-loop sheet pool class row count out₀ next₀ left₀ out next left = left
+μ-loop sheet pool class out₀ pen row next₀ left₀ out next left = left
 
 loop-holds : tie.Need-loop-holds Inv-loop μ-loop
 loop-holds c = (λ o r x. x, refl)
@@ -34,8 +32,7 @@ loop-less c = search needs
 loop-again : tie.Need-loop-again Inv-loop μ-loop
 loop-again c =
     let l = c .before .before .before .before .before .loop in
-    let t = c .before .before .before .before .loop-test .taken in
-    (λ o r x. l .inv .0 o r (rows-more (l .left) t (c .before .before .put-row .ensures) x), search needs)
+    (λ o r x. l .inv .0 o r (rows-more (l .left) (c .before .before .before .before .loop-test .taken) (c .before .before .put-row .ensures) x), search needs)
 
 same-length : tie.Need-same-length Inv-loop μ-loop
 same-length c = search needs
@@ -43,7 +40,7 @@ same-length c = search needs
 returns : tie.Need-returns Inv-loop μ-loop
 returns c =
     let l = c .before .loop in
-    l .inv .0 _ _ (rows-none _ _ _ _ _ _ _ (c .loop-test .left))
+    rows-put (l .inv .0 _ _ (rows-none _ _ _ _ _ _ _ (c .loop-test .left)))
 
 pub put-rows-spec : {M : Type 1} → statement M
 put-rows-spec =

@@ -20,7 +20,7 @@ same-length c = search needs
 
 returns : tie.Need-returns
 unfolding rowWords rowRun rowBytes bytesAs
-returns c =
+returns c v =
     record { each = λ run h. taken-by (c .before .before .before .before .before .before .before .before .word-at .ensures) (c .before .before .before .before .before .before .copy-number .ensures) (c .before .before .take-run .ensures) run }
 
 pub put-run-spec : {M : Type 1} → statement M

@@ -14,8 +14,7 @@ same-length : tie.Need-same-length
 same-length c = search needs
 
 returns : tie.Need-returns
-returns c =
-    counted-put (c .before .before .before .before .before .before .put-varint .ensures) (c .before .before .put-rows .ensures)
+returns c = counted-put (c .before .before .before .before .before .before .put-varint .ensures) (c .before .before .put-rows .ensures)
 
 pub put-counted-spec : {M : Type 1} → statement M
 put-counted-spec = tie.close (tie.spec put-varint-requires put-rows-requires same-length returns)

@@ -1,4 +1,5 @@
 -- `put_payload` goes by the section. Assumes nothing.
+use Rattle.images.proofs.LawsSections.{strings-payload, types-payload, constants-payload, globals-payload, functions-payload}
 use borrow.Author.Needs.{needs}
 use Rattle.images.proofs.sections.put_payload.Statement.{statement}
 use Rattle.images.proofs.sections.put_payload.Tie as tie
@@ -6,8 +7,11 @@ use Rattle.images.proofs.sections.put_payload.Tie as tie
 enum-told : tie.Need-enum-told
 enum-told c = search needs
 
-put-strings-requires : tie.Need-put-strings-requires
-put-strings-requires c κs = search needs
+table-at-requires : tie.Need-table-at-requires
+table-at-requires c κs = search needs
+
+put-table-requires : tie.Need-put-table-requires
+put-table-requires c κs = search needs
 
 enum-told-2 : tie.Need-enum-told-2
 enum-told-2 c = search needs
@@ -18,26 +22,38 @@ put-producer-requires c κs = search needs
 enum-told-3 : tie.Need-enum-told-3
 enum-told-3 c = search needs
 
-put-types-requires : tie.Need-put-types-requires
-put-types-requires c κs = search needs
+table-at-requires-2 : tie.Need-table-at-requires-2
+table-at-requires-2 c κs = search needs
+
+put-table-requires-2 : tie.Need-put-table-requires-2
+put-table-requires-2 c κs = search needs
 
 enum-told-4 : tie.Need-enum-told-4
 enum-told-4 c = search needs
 
-put-constants-requires : tie.Need-put-constants-requires
-put-constants-requires c κs = search needs
+table-at-requires-3 : tie.Need-table-at-requires-3
+table-at-requires-3 c κs = search needs
+
+put-table-requires-3 : tie.Need-put-table-requires-3
+put-table-requires-3 c κs = search needs
 
 enum-told-5 : tie.Need-enum-told-5
 enum-told-5 c = search needs
 
-put-globals-requires : tie.Need-put-globals-requires
-put-globals-requires c κs = search needs
+table-at-requires-4 : tie.Need-table-at-requires-4
+table-at-requires-4 c κs = search needs
+
+put-counted-requires : tie.Need-put-counted-requires
+put-counted-requires c κs = search needs
 
 enum-told-6 : tie.Need-enum-told-6
 enum-told-6 c = search needs
 
-put-functions-requires : tie.Need-put-functions-requires
-put-functions-requires c κs = search needs
+table-at-requires-5 : tie.Need-table-at-requires-5
+table-at-requires-5 c κs = search needs
+
+put-counted-requires-2 : tie.Need-put-counted-requires-2
+put-counted-requires-2 c κs = search needs
 
 enum-told-7 : tie.Need-enum-told-7
 enum-told-7 c = search needs
@@ -50,42 +66,42 @@ same-length c = search needs
 
 returns : tie.Need-returns
 returns c =
-    rw (c .before .before .before .before .enum-told .given .1) (c .before .before .put-strings .ensures)
+    rw (c .before .before .before .before .before .enum-told .given .1) (strings-payload (c .before .before .before .before .table-at .ensures) (c .before .before .put-table .ensures))
 
 same-length-2 : tie.Need-same-length-2
 same-length-2 c = search needs
 
 returns-2 : tie.Need-returns-2
 returns-2 c =
-    rw (c .before .before .before .before .enum-told2 .given .1) (c .before .before .put-producer .ensures)
+    rw (c .before .before .before .before .enum-told2 .given .1) (c .before .before .put-producer .ensures _ _)
 
 same-length-3 : tie.Need-same-length-3
 same-length-3 c = search needs
 
 returns-3 : tie.Need-returns-3
 returns-3 c =
-    rw (c .before .before .before .before .enum-told3 .given .1) (c .before .before .put-types .ensures)
+    rw (c .before .before .before .before .before .enum-told3 .given .1) (types-payload (c .before .before .before .before .table-at2 .ensures) (c .before .before .put-table2 .ensures))
 
 same-length-4 : tie.Need-same-length-4
 same-length-4 c = search needs
 
 returns-4 : tie.Need-returns-4
 returns-4 c =
-    rw (c .before .before .before .before .enum-told4 .given .1) (c .before .before .put-constants .ensures)
+    rw (c .before .before .before .before .before .enum-told4 .given .1) (constants-payload (c .before .before .before .before .table-at3 .ensures) (c .before .before .put-table3 .ensures))
 
 same-length-5 : tie.Need-same-length-5
 same-length-5 c = search needs
 
 returns-5 : tie.Need-returns-5
 returns-5 c =
-    rw (c .before .before .before .before .enum-told5 .given .1) (c .before .before .put-globals .ensures)
+    rw (c .before .before .before .before .before .enum-told5 .given .1) (globals-payload (c .before .before .before .before .table-at4 .ensures) (c .before .before .put-counted .ensures))
 
 same-length-6 : tie.Need-same-length-6
 same-length-6 c = search needs
 
 returns-6 : tie.Need-returns-6
 returns-6 c =
-    rw (c .before .before .before .before .enum-told6 .given .1) (c .before .before .put-functions .ensures)
+    rw (c .before .before .before .before .before .enum-told6 .given .1) (functions-payload (c .before .before .before .before .table-at5 .ensures) (c .before .before .put-counted2 .ensures))
 
 same-length-7 : tie.Need-same-length-7
 same-length-7 c = search needs
@@ -99,17 +115,22 @@ put-payload-spec =
     tie.close
     (tie.spec
     enum-told
-    put-strings-requires
+    table-at-requires
+    put-table-requires
     enum-told-2
     put-producer-requires
     enum-told-3
-    put-types-requires
+    table-at-requires-2
+    put-table-requires-2
     enum-told-4
-    put-constants-requires
+    table-at-requires-3
+    put-table-requires-3
     enum-told-5
-    put-globals-requires
+    table-at-requires-4
+    put-counted-requires
     enum-told-6
-    put-functions-requires
+    table-at-requires-5
+    put-counted-requires-2
     enum-told-7
     put-debug-requires
     same-length

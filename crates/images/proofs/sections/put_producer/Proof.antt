@@ -1,4 +1,4 @@
--- `put_producer` puts the payload of Producer. Assumes nothing.
+-- `put_producer` puts the producer's index, if it is named. Assumes nothing.
 use Rattle.images.proofs.LawsSections.{producer-named, producer-unnamed}
 use borrow.Author.Needs.{needs}
 use Rattle.images.proofs.sections.put_producer.Statement.{statement}
@@ -17,11 +17,10 @@ same-length : tie.Need-same-length
 same-length c = search needs
 
 returns : tie.Need-returns
-returns c =
-    producer-named (c .before .before .before .before .before .word-at .ensures) (c .before .before .before .before .if1 .taken) (c .before .before .put-varint .ensures)
+returns c v pool = producer-named (c .before .before .before .before .before .word-at .ensures) (c .before .before .before .before .if1 .taken) (c .before .before .put-varint .ensures)
 
 returns-2 : tie.Need-returns-2
-returns-2 c = producer-unnamed _ _ (c .before .word-at .ensures) (c .if1 .left)
+returns-2 c v pool = producer-unnamed _ (c .before .word-at .ensures) (c .if1 .left)
 
 pub put-producer-spec : {M : Type 1} → statement M
 put-producer-spec =

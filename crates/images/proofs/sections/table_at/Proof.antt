@@ -20,7 +20,7 @@ word-at-requires-2 c κs = search needs
 returns : tie.Need-returns
 returns c =
     let s = c .before .before .before .before .args .sheet .now in
-    table-is (c .before .before .before .before .args .row) (c .before .before .before .before .args .run) (c .before .before .before .before .args .width) (c .before .word-at .ensures) (c .word-at2 .ensures ∙ ap (λ (i : ℕ). getD (wordsIn s) i 0) (c .before .before .wrapping-add-usize .ensures))
+    table-is (c .before .before .before .before .args .row) (c .before .before .before .before .args .width) (c .before .word-at .ensures) (c .word-at2 .ensures ∙ ap (λ (i : ℕ). getD (wordsIn s) i 0) (c .before .before .wrapping-add-usize .ensures))
 
 pub table-at-spec : {M : Type 1} → statement M
 table-at-spec =

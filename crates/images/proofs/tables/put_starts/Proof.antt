@@ -3,7 +3,9 @@
 use mathlib.Core.Path.{_≡_, refl}
 use Prim.Native.Nat.{ℕ}
 use mathlib.Core.List.{List}
+use native.Mathlib.Nat.{le-refl}
 use lib.ListN.{length}
+use Rattle.images.specs.Rows.{rowBytes}
 use Rattle.images.specs.Tables.{StartsPut}
 use Rattle.images.proofs.LawsTables.{starts-none, starts-more, starts-skipped}
 use borrow.Author.Needs.{needs}
@@ -11,19 +13,19 @@ use Rattle.images.proofs.tables.put_starts.Statement.{statement}
 use Rattle.images.proofs.tables.put_starts.Tie as tie
 
 abbrev Inv-loop : tie.InvT-loop
-Inv-loop sheet pool class table out₀ at row next₀ start₀ word₀ left₀ out next start word left =
-    ((out' : List ℕ) (r : ℕ) → StartsPut «class» row (table .width) left sheet word start next out out' r →
-    StartsPut «class» row (table .width) left₀ sheet word₀ start₀ next₀ out₀ out' r) ×
+Inv-loop sheet pool class table out₀ at row next₀ this₀ left₀ out next this left =
+    ((out' : List ℕ) (r : ℕ) → StartsPut «class» row (rowBytes «class» row) (table .width) left sheet (this .word) (this .start .0) next out out' r →
+    StartsPut «class» row (rowBytes «class» row) (table .width) left₀ sheet (this₀ .word) (this₀ .start .0) next₀ out₀ out' r) ×
     (length out ≡ length out₀)
 
 abbrev μ-loop : tie.MeasureT-loop
-μ-loop sheet pool class table out₀ at row next₀ start₀ word₀ left₀ out next start word left = left
+μ-loop sheet pool class table out₀ at row next₀ this₀ left₀ out next this left = left
 
 skip-starts-requires : tie.Need-skip-starts-requires Inv-loop μ-loop
 skip-starts-requires c κs = search needs
 
 returns : tie.Need-returns Inv-loop μ-loop
-returns c = starts-skipped _ _ _ _ _ _ _ _ _ _ (c .before .if1 .taken) (c .skip-starts .ensures)
+returns c = starts-skipped _ _ _ _ _ _ _ _ _ _ _ (c .before .if1 .taken) (c .skip-starts .ensures)
 
 loop-holds : tie.Need-loop-holds Inv-loop μ-loop
 loop-holds c = (λ o r x. x, refl)
@@ -31,14 +33,8 @@ loop-holds c = (λ o r x. x, refl)
 put-le-requires : tie.Need-put-le-requires Inv-loop μ-loop
 put-le-requires c κs = search needs
 
-measure-row-requires : tie.Need-measure-row-requires Inv-loop μ-loop
-measure-row-requires c κs = search needs
-
-in-units-requires : tie.Need-in-units-requires Inv-loop μ-loop
-in-units-requires c κs = search needs
-
-wrapping-add-usize-requires : tie.Need-wrapping-add-usize-requires Inv-loop μ-loop
-wrapping-add-usize-requires c κs = search needs
+next-entry-requires : tie.Need-next-entry-requires Inv-loop μ-loop
+next-entry-requires c κs = search needs
 
 sub-left : tie.Need-sub-left Inv-loop μ-loop
 sub-left c = search needs
@@ -48,9 +44,9 @@ loop-less c = search needs
 
 loop-again : tie.Need-loop-again Inv-loop μ-loop
 loop-again c =
-    let l = c .before .before .before .before .before .before .before .before .before .before .before .loop in
-    let m = c .before .before .before .before .measure-row .ensures in
-    (λ o r x. l .inv .0 o r (starts-more (l .left) (c .before .before .before .before .before .before .before .before .before .before .loop-test .taken) (c .before .before .before .before .before .before .before .before .put-le .ensures) (m .0) (m .1) (c .before .in-units .ensures) (c .wrapping-add-usize .ensures) x), search needs)
+    let l = c .before .before .before .before .before .before .before .before .before .before .loop in
+    let m = c .before .before .next-entry .ensures in
+    (λ o r x. l .inv .0 o r (starts-more (l .left) (c .before .before .before .before .before .before .before .before .before .loop-test .taken) (λ x. le-refl _) (c .before .before .before .before .before .before .put-le .ensures) (m .0) (m .1) x), search needs)
 
 same-length : tie.Need-same-length Inv-loop μ-loop
 same-length c = search needs
@@ -58,7 +54,7 @@ same-length c = search needs
 returns-2 : tie.Need-returns-2 Inv-loop μ-loop
 returns-2 c =
     let l = c .before .loop in
-    l .inv .0 _ _ (starts-none _ _ _ _ _ _ _ _ _ (c .loop-test .left))
+    l .inv .0 _ _ (starts-none _ _ _ _ _ _ _ _ _ _ (c .loop-test .left))
 
 pub put-starts-spec : {M : Type 1} → statement M
 put-starts-spec =
@@ -70,9 +66,7 @@ put-starts-spec =
     returns
     loop-holds
     put-le-requires
-    measure-row-requires
-    in-units-requires
-    wrapping-add-usize-requires
+    next-entry-requires
     sub-left
     loop-less
     loop-again

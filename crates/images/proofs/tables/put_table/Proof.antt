@@ -17,8 +17,7 @@ same-length : tie.Need-same-length
 same-length c = search needs
 
 returns : tie.Need-returns
-returns c =
-    table-put _ (c .before .before .before .before .before .before .before .before .before .before .before .before .before .before .before .args .table) (c .before .before .before .before .before .before .before .before .before .before .put-count .ensures) (c .before .before .before .before .before .before .put-starts .ensures) (c .before .before .put-rows .ensures)
+returns c = table-put (c .before .before .before .before .before .before .before .before .before .before .put-count .ensures) (c .before .before .before .before .before .before .put-starts .ensures) (c .before .before .put-rows .ensures)
 
 pub put-table-spec : {M : Type 1} → statement M
 put-table-spec =

@@ -1,8 +1,8 @@
 -- `write_judged` writes the image if it has room. Assumes nothing.
-use Rattle.writer.proofs.LawsWrites.{written-refused, written-small, written-fine}
+use Rattle.images.proofs.LawsJudged.{written-refused, written-small, written-fine}
 use borrow.Author.Needs.{needs}
-use Rattle.writer.proofs.judged.write_judged.Statement.{statement}
-use Rattle.writer.proofs.judged.write_judged.Tie as tie
+use Rattle.images.proofs.judged.write_judged.Statement.{statement}
+use Rattle.images.proofs.judged.write_judged.Tie as tie
 
 image-length-requires : tie.Need-image-length-requires
 image-length-requires c κs = search needs
