@@ -8,7 +8,7 @@ use lib.ListN.{length, drop, length-append}
 use Rattle.exact.specs.Got.{Got, got, stop, follow}
 use Rattle.exact.specs.Exact.{Parser, Lang, Reads, Exact, Ends}
 use Rattle.exact.specs.Basic.{Is, is}
-use Rattle.exact.specs.Sequence.{bind, Then, then, map, Of, of}
+use Rattle.exact.specs.Sequence.{bind, Then, then, mapped, Of, of}
 use Rattle.exact.proofs.LawsExact.{drop-past, stop-not-got, same-exact}
 use Rattle.exact.proofs.LawsBasic.{pure-exact}
 
@@ -92,6 +92,6 @@ then-of : {A B : Type 0} (f : A → B) {R : Lang A} (i : ℕ) (bs : List ℕ) (w
 then-of f {R} i bs w (of {v = v} r) = let t : Then R (λ v. Is (f v)) i (bs ++ []) (f v) = then r is in rw append-nil at t
 
 -- A function of what an exact parser reads is read exactly.
-pub map-exact : {A B : Type 0} (f : A → B) {p : Parser A} {R : Lang A} → Exact p R → Exact (map f p) (Of f R)
-unfolding map
+pub map-exact : {A B : Type 0} (f : A → B) {p : Parser A} {R : Lang A} → Exact p R → Exact (mapped f p) (Of f R)
+unfolding mapped
 map-exact f x = same-exact (bind-exact x (λ v. pure-exact (f v))) (λ i bs w. (of-then f i bs w, then-of f i bs w))

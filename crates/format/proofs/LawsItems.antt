@@ -7,7 +7,7 @@ use mathlib.Core.List.{List}
 use lib.ListN.{length, length-replicate}
 use Rattle.exact.specs.Exact.{Parser, Lang, Exact}
 use Rattle.exact.specs.Basic.{byte, One, one, Is, is}
-use Rattle.exact.specs.Sequence.{map, Then, then, Of, of}
+use Rattle.exact.specs.Sequence.{mapped, Then, then, Of, of}
 use Rattle.exact.specs.Choice.{If, so, else}
 use Rattle.exact.specs.Repeat.{Many, nil, cons, Counted, counted-of}
 use Rattle.exact.specs.Fixed.{raw-of, Fixed}
@@ -92,7 +92,7 @@ module _ {R : List ℕ → ℕ → Type 0} where
   of-truth i bs v (truth-of r) = of r
 
 -- Whether a number is nonzero.
-pub truth-exact : {p : Parser ℕ} {R : List ℕ → ℕ → Type 0} → Exact p (λ i. R) → Exact (map truth p) (λ i. Truth R)
+pub truth-exact : {p : Parser ℕ} {R : List ℕ → ℕ → Type 0} → Exact p (λ i. R) → Exact (mapped truth p) (λ i. Truth R)
 truth-exact x = same-exact (map-exact truth x) (λ i bs v. (to-truth i bs v, of-truth i bs v))
 
 abbrev PaddedChain : ℕ → ℕ → Lang (List ℕ)

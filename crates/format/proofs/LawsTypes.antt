@@ -7,7 +7,7 @@ use mathlib.Core.Bool.{true, false, Bool-discrete, false≢true}
 use mathlib.Core.List.{List, _++_, append-assoc}
 use Rattle.exact.specs.Exact.{Lang, Exact, Ends}
 use Rattle.exact.specs.Basic.{byte, Is, is}
-use Rattle.exact.specs.Sequence.{map, Then, then, Of, of}
+use Rattle.exact.specs.Sequence.{mapped, Then, then, Of, of}
 use Rattle.exact.specs.Choice.{If, so, else}
 use Rattle.exact.specs.Kinds.{OneOf, AllExact}
 use Rattle.exact.specs.Upto.{Upto, upto-of}
@@ -48,7 +48,7 @@ byte-if-exact : (flags : ℕ) → Exact (D.byteIf flags) (ByteIf flags)
 unfolding D.byteIf
 byte-if-exact flags = field-exact (ℕ-discrete (flags % 2) 1) one-byte-exact
 
-presence-exact : Exact (map truth byte) (λ i. Truth Byte)
+presence-exact : Exact (mapped truth byte) (λ i. Truth Byte)
 presence-exact = truth-exact one-byte-exact
 
 padding-exact : (presence : ℕ) → Exact (fieldAt (ℕ-discrete presence 1) varintAt) (λ i. Field (presence ≡ 1) Spells)

@@ -116,35 +116,35 @@ words-of t (a ∷ b ∷ c ∷ d ∷ e ∷ f ∷ g ∷ vs) h = let z : ⊥ = omeg
 
 -- What one attribute in the bytes l reads.
 abbrev pub oneAt : List ℕ → Got (List ℕ)
-oneAt l = sequence.map attributeWords attributeAt l 0
+oneAt l = sequence.mapped attributeWords attributeAt l 0
 
 module _ (l : List ℕ) where
   pub one-short : (c k : ℕ) → byte l 0 ≡ stop c k → oneAt l ≡ stop c k
-  unfolding sequence.map bind attributeAt upto here follow
+  unfolding sequence.mapped bind attributeAt upto here follow
   one-short c k e = rw e
 
   module _ (t j : ℕ) (e : byte l 0 ≡ got t j) where
     pub one-unknown : 7 ≤ t → oneAt l ≡ stop refusals.debugTag 0
-    unfolding sequence.map bind attributeAt upto here follow refuse
+    unfolding sequence.mapped bind attributeAt upto here follow refuse
     one-unknown h =
         let n : ¬ (t < length fieldCounts) = omega arith in
-        let q = choose-no (decLt t (length fieldCounts)) (sequence.map (attributeOf t) (times (getD fieldCounts t 0) varintAt)) (refuse refusals.debugTag 0) n in
+        let q = choose-no (decLt t (length fieldCounts)) (sequence.mapped (attributeOf t) (times (getD fieldCounts t 0) varintAt)) (refuse refusals.debugTag 0) n in
         rw (e, q)
 
     module _ (h : t < 7) where
       pub one-stop : (c k : ℕ) → times (getD fieldCounts t 0) varintAt l j ≡ stop c k → oneAt l ≡ stop c k
-      unfolding sequence.map bind attributeAt upto here follow
+      unfolding sequence.mapped bind attributeAt upto here follow
       one-stop c k f =
           let n : t < length fieldCounts = omega arith in
-          let q = choose-yes (decLt t (length fieldCounts)) (sequence.map (attributeOf t) (times (getD fieldCounts t 0) varintAt)) (refuse refusals.debugTag 0) n in
+          let q = choose-yes (decLt t (length fieldCounts)) (sequence.mapped (attributeOf t) (times (getD fieldCounts t 0) varintAt)) (refuse refusals.debugTag 0) n in
           rw (e, q, f)
 
       pub one-got : (vs : List ℕ) (k : ℕ) → times (getD fieldCounts t 0) varintAt l j ≡ got vs k →
           oneAt l ≡ got (attributeWords (attributeOf t vs)) (length l)
-      unfolding sequence.map bind attributeAt upto here follow pure
+      unfolding sequence.mapped bind attributeAt upto here follow pure
       one-got vs k f =
           let n : t < length fieldCounts = omega arith in
-          let q = choose-yes (decLt t (length fieldCounts)) (sequence.map (attributeOf t) (times (getD fieldCounts t 0) varintAt)) (refuse refusals.debugTag 0) n in
+          let q = choose-yes (decLt t (length fieldCounts)) (sequence.mapped (attributeOf t) (times (getD fieldCounts t 0) varintAt)) (refuse refusals.debugTag 0) n in
           rw (e, q, f)
 
 -- A refusal as the row's.
@@ -166,7 +166,7 @@ fields-at a j w v n l s s' r e x = subst (λ a. Put (numbers n n Varint l (a .po
 module _ (l s s₁ s₂ : List ℕ) (w t j n : ℕ) (e : byte l 0 ≡ got t j) (h : t < 7) (c : n ≡ getD fieldCounts t 0) where
   fields-stop : (g : Got (List ℕ)) (x : Refused) → times n varintAt l j ≡ g → Put (numbers n n Varint l j) (w + 1) s₁ s₂ (spot.Stop x) →
       g ≡ stop (x .no) (x .at)
-  unfolding Put numbers numberAt sequence.map bind follow pure
+  unfolding Put numbers numberAt sequence.mapped bind follow pure
   fields-stop (got vs k) x f p = let y = rw f at p in let z : _≡_ {A = ℕ} 0 1 = cc (y .0) in let q : ⊥ = omega arith in absurd q
   fields-stop (stop d k) x f p = let y = rw f at p in cc (y)
 
@@ -176,7 +176,7 @@ module _ (l s s₁ s₂ : List ℕ) (w t j n : ℕ) (e : byte l 0 ≡ got t j) (
 
   fields-got : (g : Got (List ℕ)) (b : Spot) → times n varintAt l j ≡ g → Put (numbers n n Varint l j) (w + 1) s₁ s₂ (spot.Got b) →
       (vs : List ℕ) × (times n varintAt l j ≡ got vs (b .pos)) × (b .word ≡ w + 1 + length vs) × (s₂ ≡ putWords s₁ (w + 1) vs)
-  unfolding Put numbers numberAt sequence.map bind follow pure
+  unfolding Put numbers numberAt sequence.mapped bind follow pure
   fields-got (got vs k) b f p =
       let y = rw f at p in
       (vs, f ∙ ap (got vs) (cc (y .0)), cc (y .0), y .1)
@@ -214,7 +214,7 @@ step-place n l i c k h more (got v j) f e =
 step-place n l i c k h more (stop d m) f e = let q : m ≡ k = cc in omega (arith, varint-place l i d m f)
 
 times-place : (n : ℕ) (l : List ℕ) (i c k : ℕ) → i ≤ length l → times n varintAt l i ≡ stop c k → k ≤ length l
-unfolding times bind sequence.map pure follow
+unfolding times bind sequence.mapped pure follow
 times-place zero l i c k h e = absurd (stop-not-got (sym e))
 times-place (suc n) l i c k h e = step-place n l i c k h (λ j d m. times-place n l j d m) (varintAt l i) refl e
 

@@ -9,7 +9,7 @@ use lib.ListN.{length}
 use Rattle.exact.specs.Got.{got, stop, follow}
 use Rattle.exact.specs.Exact.{Parser}
 use Rattle.exact.specs.Basic.{pure, fail}
-use Rattle.exact.specs.Sequence.{bind, map}
+use Rattle.exact.specs.Sequence.{bind, mapped}
 use Rattle.exact.specs.Choice.{such}
 use Rattle.exact.specs.Padding.{broke, blamed}
 use Rattle.exact.specs.Upto.{upto}
@@ -39,15 +39,15 @@ module _ (n : ℕ) (l : List ℕ) where
 
   -- The index is refused ..
   pub producer-stop : (c k : ℕ) → varintAt l 0 ≡ stop c k → stop c k ≡ producerAt n l 0
-  unfolding producerAt upto map blamed broke bind follow
+  unfolding producerAt upto mapped blamed broke bind follow
   producer-stop c k e = rw (index-stop c k e, varint-place l 0 c k e)
 
   -- .. inside ..
   pub producer-in : (v j : ℕ) → varintAt l 0 ≡ got v j → v < n → got (some v) (length l) ≡ producerAt n l 0
-  unfolding producerAt upto map blamed broke bind follow pure
+  unfolding producerAt upto mapped blamed broke bind follow pure
   producer-in v j e h = rw (index-in v j e h)
 
   -- .. or outside.
   pub producer-out : (v j : ℕ) → varintAt l 0 ≡ got v j → n ≤ v → stop refusals.noProducer 0 ≡ producerAt n l 0
-  unfolding producerAt upto map blamed broke bind follow
+  unfolding producerAt upto mapped blamed broke bind follow
   producer-out v j e h = let o : ¬ (v < n) = omega arith in rw (index-out v j e o)

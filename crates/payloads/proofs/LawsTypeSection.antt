@@ -69,28 +69,28 @@ module _ (c : VersionClass) (l : List ℕ) (b start end w : ℕ) (s s' : List �
   bounds-row e = rw e refl
 
   module _ (x : List ℕ) (e : cutLeast 0 start end (drop b l) ≡ some x) where
-    part-stop : (z : Refused) (g : Got TypeRow) → typeEntryAt c x 0 ≡ g → Row (sequence.map typeWords (typeEntryAt c) x 0) w s s' (spot.Stop z) →
+    part-stop : (z : Refused) (g : Got TypeRow) → typeEntryAt c x 0 ≡ g → Row (sequence.mapped typeWords (typeEntryAt c) x 0) w s s' (spot.Stop z) →
         Row (rowWords (entryIn c b start end l)) w s s' (spot.Stop record { no = z .no; at = b + start + z .at })
-    unfolding sequence.map bind follow pure rowWords entryIn entry raised Row placeOf
+    unfolding sequence.mapped bind follow pure rowWords entryIn entry raised Row placeOf
     part-stop z (got v j) f h = let y = rw f at h in absurd (stop-not-got (y .0))
     part-stop z (stop d k) f h =
         let y : _≡_ {A = Got ℕ} (stop (z .no) (z .at)) (stop d k) = rw f at h in
         rw (e, f) (cc)
 
-    part-got : (t : Spot) (g : Got TypeRow) → typeEntryAt c x 0 ≡ g → Row (sequence.map typeWords (typeEntryAt c) x 0) w s s' (spot.Got t) →
+    part-got : (t : Spot) (g : Got TypeRow) → typeEntryAt c x 0 ≡ g → Row (sequence.mapped typeWords (typeEntryAt c) x 0) w s s' (spot.Got t) →
         Row (rowWords (entryIn c b start end l)) w s s' (spot.Got record { pos = b + start + t .pos; word = t .word; value = t .value })
-    unfolding sequence.map bind follow pure rowWords entryIn entry raised Row placeOf
+    unfolding sequence.mapped bind follow pure rowWords entryIn entry raised Row placeOf
     part-got t (got v j) f h =
         let y = rw f at h in
         let q : _≡_ {A = Got ℕ} (got (t .word) (t .pos)) (got (w + length (typeWords v)) j) = y .0 in
         rw (e, f) ((cc), y .1)
     part-got t (stop d k) f h = let y = rw f at h in absurd (stop-not-got (sym y))
 
-    pub entry-stopped : (z : Refused) → Row (sequence.map typeWords (typeEntryAt c) x 0) w s s' (spot.Stop z) →
+    pub entry-stopped : (z : Refused) → Row (sequence.mapped typeWords (typeEntryAt c) x 0) w s s' (spot.Stop z) →
         Row (rowWords (entryIn c b start end l)) w s s' (spot.Stop record { no = z .no; at = b + start + z .at })
     entry-stopped z h = part-stop z (typeEntryAt c x 0) refl h
 
-    pub entry-read : (t : Spot) → Row (sequence.map typeWords (typeEntryAt c) x 0) w s s' (spot.Got t) →
+    pub entry-read : (t : Spot) → Row (sequence.mapped typeWords (typeEntryAt c) x 0) w s s' (spot.Got t) →
         Row (rowWords (entryIn c b start end l)) w s s' (spot.Got record { pos = b + start + t .pos; word = t .word; value = t .value })
     entry-read t h = part-got t (typeEntryAt c x 0) refl h
 

@@ -72,26 +72,26 @@ module _ (c : VersionClass) (n : ℕ) (l : List ℕ) (i left : ℕ) (rest : left
 -- What the section is, by its count and padding.
 module _ (c : VersionClass) (l : List ℕ) where
   pub types-stop : (x : Refused) → varintAt l 0 ≡ stop (x .no) (x .at) → typesAt c 0 l 0 ≡ stop (x .no) (x .at)
-  unfolding typesAt offsetTableAt sequence.map bind follow
+  unfolding typesAt offsetTableAt sequence.mapped bind follow
   types-stop x e = rw e
 
   pub types-none : (n j : ℕ) → varintAt l 0 ≡ got n j → n ≡ 0 → typesAt c 0 l 0 ≡ got [] (length l)
-  unfolding typesAt offsetTableAt sequence.map bind follow upto pure
+  unfolding typesAt offsetTableAt sequence.mapped bind follow upto pure
   types-none n j e h = rw (e, choose-yes (ℕ-discrete n 0) _ _ h)
 
   module _ (n j : ℕ) (e : varintAt l 0 ≡ got n j) (some : ¬ (n ≡ 0)) where
     pub types-padding : (x : Refused) → paddingAt 4 l j ≡ stop (x .no) (x .at) → typesAt c 0 l 0 ≡ stop (x .no) (x .at)
-    unfolding typesAt offsetTableAt sequence.map bind follow entries paddingAt
+    unfolding typesAt offsetTableAt sequence.mapped bind follow entries paddingAt
     types-padding x f = rw (e, choose-no (ℕ-discrete n 0) _ _ some, f)
 
     types-data : (k : ℕ) (ss : List ℕ) (m : ℕ) (g : Got (List TypeRow)) → paddingAt 4 l j ≡ got tt k → times n (fixed 4) l k ≡ got ss m →
         entriesOf refusals.bounds 0 (typeEntryAt c) ss m (length l) (drop m l) ≡ g → typesAt c 0 l 0 ≡ startsAndEntries c n l k
-    unfolding typesAt offsetTableAt sequence.map bind follow pure entries rows paddingAt startsAndEntries
+    unfolding typesAt offsetTableAt sequence.mapped bind follow pure entries rows paddingAt startsAndEntries
     types-data k ss m (got vs d) f t h = rw (e, choose-no (ℕ-discrete n 0) _ _ some, f, t, h)
     types-data k ss m (stop b d) f t h = rw (e, choose-no (ℕ-discrete n 0) _ _ some, f, t, h)
 
     types-starts : (k : ℕ) (g : Got (List ℕ)) → paddingAt 4 l j ≡ got tt k → times n (fixed 4) l k ≡ g → typesAt c 0 l 0 ≡ startsAndEntries c n l k
-    unfolding typesAt offsetTableAt sequence.map bind follow entries paddingAt startsAndEntries
+    unfolding typesAt offsetTableAt sequence.mapped bind follow entries paddingAt startsAndEntries
     types-starts k (got ss m) f t = types-data k ss m (entriesOf refusals.bounds 0 (typeEntryAt c) ss m (length l) (drop m l)) f t refl
     types-starts k (stop b d) f t = rw (e, choose-no (ℕ-discrete n 0) _ _ some, f, t)
 

@@ -40,7 +40,7 @@ use Rattle.payloads.specs.declared.rows.FuncRead.the-variants as func
 unfoldable pub linkageAt : VersionClass → Parser (ℕ × ℕ)
 linkageAt c =
     sequence.bind (fieldAt (Bool-discrete (since13·3 c) true) byte)
-    (λ v. sequence.map (λ f. (v, f)) (fieldAt (Bool-discrete (since13·3 c) true) (sequence.map truth varintAt)))
+    (λ v. sequence.mapped (λ f. (v, f)) (fieldAt (Bool-discrete (since13·3 c) true) (sequence.mapped truth varintAt)))
 
 abbrev pub gotLinkage : LinkageRead → Got (ℕ × ℕ)
 gotLinkage (linkage.Got k r) = got (k .visibility, k .constant) (r .pos)

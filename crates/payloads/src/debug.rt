@@ -3,7 +3,7 @@
 ghost use mathlib.Core.Path.{_≡_};
 ghost use Prim.Native.Nat.{_+_, _-_, _*_, _^_, _≤_, _<_};
 ghost use lib.ListN.{length, take, drop, replicate};
-ghost use Rattle.exact.specs.Sequence.{bind, map};
+ghost use Rattle.exact.specs.Sequence.{bind, mapped};
 ghost use Rattle.exact.specs.Tiling.{endOf, cuts};
 ghost use Rattle.exact.specs.Entries.{rows, entriesOf};
 ghost use Rattle.enums.specs.Refusals as refusals;
@@ -85,7 +85,7 @@ fn put_zeros(sheet: &mut [u8], at: usize, count: u64)
 // An attribute as a row of seven words: its tag, and six fields.
 fn parse_attribute(entry: &[u8], sheet: &mut [u8], word: usize) -> SpotRead
     requires { ⌜ word + length (now «entry») + 8 ≤ 2 ^ 62 ⌝ }
-    ensures { λ r. ⌜ Row (map attributeWords attributeAt (now («entry» .entry)) 0) word (now (sheet .entry)) (now (sheet .exit)) r ⌝ }
+    ensures { λ r. ⌜ Row (mapped attributeWords attributeAt (now («entry» .entry)) 0) word (now (sheet .entry)) (now (sheet .exit)) r ⌝ }
 {
     let reader = Reader { pos: 0 };
     match reader.read_byte(entry) {

@@ -9,7 +9,7 @@ use lib.ListN.{length, drop, replicate, length-append, length-drop}
 use Rattle.exact.specs.Got.{Got, got, stop, follow}
 use Rattle.exact.specs.Exact.{Parser, Lang, Exact}
 use Rattle.exact.specs.Basic.{byte, pure}
-use Rattle.exact.specs.Sequence.{bind, map}
+use Rattle.exact.specs.Sequence.{bind, mapped}
 use Rattle.exact.specs.Repeat.{times, counted}
 use Rattle.exact.specs.Fixed.{raw, little, fixed}
 use Rattle.exact.specs.Padding.{literal, broke, blamed, here, gap, pad}
@@ -95,8 +95,8 @@ module _ {A B : Type 0} {p : Parser A} {R : Lang A} (x : Exact p R) (a : Ahead p
   bind-ahead f b l i c k e = go-on f b l i c k (p l i) refl e
 
   -- A function of what was read.
-  pub map-ahead : (g : A → B) → Ahead (map g p)
-  unfolding map
+  pub map-ahead : (g : A → B) → Ahead (mapped g p)
+  unfolding mapped
   map-ahead g = bind-ahead (λ v. pure (g v)) (λ v. pure-ahead (g v))
 
 -- Numbers of a fixed width, ..
@@ -109,7 +109,7 @@ pub times-ahead : (n w : ℕ) → Ahead (times n (fixed w))
 unfolding times
 times-ahead zero w = pure-ahead []
 times-ahead (suc n) w =
-    bind-ahead (fixed-exact w) (fixed-ahead w) (λ v. map (λ vs. v ∷ vs) (times n (fixed w)))
+    bind-ahead (fixed-exact w) (fixed-ahead w) (λ v. mapped (λ vs. v ∷ vs) (times n (fixed w)))
     (λ v. map-ahead (times-exact n (fixed-exact w)) (times-ahead n w) (λ vs. v ∷ vs))
 
 -- .. and signed ones.

@@ -10,7 +10,7 @@ use lib.ListN.{length, take, drop}
 use Rattle.exact.specs.Got.{Got, got, stop, ended, follow}
 use Rattle.exact.specs.Exact.{Parser}
 use Rattle.exact.specs.Basic.{pure}
-use Rattle.exact.specs.Sequence.{bind, map}
+use Rattle.exact.specs.Sequence.{bind, mapped}
 use Rattle.exact.specs.Repeat.{times, counted}
 use Rattle.exact.specs.Fixed.{raw, little, fixed, nums}
 use Rattle.exact.specs.Padding.{here}
@@ -24,12 +24,12 @@ use Rattle.reading.proofs.LawsNumbers.{varint-in}
 module _ {A : Type 0} (p : Parser A) (l : List ℕ) (i : ℕ) where
   -- A value that was read, with its place ..
   pub placed-at : (v : A) (j : ℕ) → p l i ≡ got v j → placed p l i ≡ got (i, v) j
-  unfolding placed here map bind follow pure
+  unfolding placed here mapped bind follow pure
   placed-at v j e = rw e
 
   -- .. and a refusal.
   pub placed-end : (c k : ℕ) → p l i ≡ stop c k → placed p l i ≡ stop c k
-  unfolding placed here map bind follow
+  unfolding placed here mapped bind follow
   placed-end c k e = rw e
 
   -- A value with a place was read there ..
@@ -86,7 +86,7 @@ module _ (n : ℕ) (s : List ℕ) (i : ℕ) where
 
   -- .. and one that was refused.
   pub run-stop : (c k : ℕ) → placed (raw n) s i ≡ stop c k → stop c k ≡ fixed n s i
-  unfolding fixed map bind follow
+  unfolding fixed mapped bind follow
   run-stop c k e = rw (placed-stop (raw n) s i c k e)
 
 module _ (w : ℕ) (s : List ℕ) (i : ℕ) where

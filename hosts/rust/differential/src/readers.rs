@@ -163,14 +163,24 @@ fn read_bytes(random: &mut Random) -> Tally {
     tally
 }
 
-fn skip_padding(random: &mut Random) -> Tally {
+/// Past the data decoder.rs passes over no bytes where none are due, and ours refuses (23 of docs/DIFFERENCES.md): the
+/// second tally counts these.
+fn skip_padding(random: &mut Random) -> [Tally; 2] {
     let mut tally = Tally::new("skip_padding");
+    let mut past = Tally::new("skip_padding past the data");
     let mut compare = |data: &[u8], at: u64, alignment: u64| {
-        let reached = wanted(data, at, |r| {
+        let rust = wanted(data, at, |r| {
             r.skip_padding(alignment)?;
             Ok(r.pos() as u64 - at)
         });
-        compare_call(&mut tally, data, at, Some(alignment), boundary::skip_padding(data, at, alignment), reached);
+        let ours = boundary::skip_padding(data, at, alignment);
+        if rust == Answer::accepted(0, at) && at > data.len() as u64 {
+            past.case(ours == Answer::refused(SHORT), [data.len() as u64, at, alignment], || {
+                format!("{data:02X?} at {at}, asked for {alignment}: {ours:?}")
+            });
+        } else {
+            compare_call(&mut tally, data, at, Some(alignment), ours, rust);
+        }
     };
     for alignment in (0..=20).chain([63, 64, 65, 1 << 32, 1 << 63, u64::MAX]) {
         for len in 0..=24 {
@@ -198,7 +208,7 @@ fn skip_padding(random: &mut Random) -> Tally {
         let alignment = if random.one_in(8) { random.number() } else { random.below(40) };
         compare(&data, at, alignment);
     }
-    tally
+    [tally, past]
 }
 
 /// Past the data decoder.rs would go below 0; the answer wanted is 0.
@@ -223,6 +233,6 @@ pub fn compare(random: &mut Random, add: &mut impl FnMut(Tally)) {
         add(scalar(each, &chosen, random));
     }
     add(read_bytes(random));
-    add(skip_padding(random));
+    skip_padding(random).into_iter().for_each(&mut *add);
     add(remaining(random));
 }
