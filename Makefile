@@ -59,7 +59,7 @@ PARTS := comparison cpp-tests $(if $(EMULATED),emulated-tests) archive-tests ins
     reader-tests setup-tests
 
 test: build/setup
-	rm -f build/times
+	sed -i '/^== set-up: /!d' build/times
 	tools/timed "lint" $(MAKE) lint
 	tools/timed "proofs, must-fail edits and programs" $(MAKE) verdict
 	tools/timed "hosts, two parts at a time" $(MAKE) $(TWO) $(PARTS) FUZZ_SECONDS=30
