@@ -142,8 +142,9 @@ $(1)/%.o: hosts/cpp/%.cpp $(1)/flags | build/setup
 	@mkdir -p $$(@D)
 	$$(c++20) $$(only) -MMD -MP -c $$< -o $$@
 
-# What the headers are to C++17 is in one program with what they are to C++20.
+# What the headers are to other standards is in one program with what they are to C++20.
 $(1)/tests/cxx17_tests.o: private only := -std=c++17 -fno-exceptions
+$(1)/tests/cxx23_tests.o: private only := -std=c++2b
 
 $(1)/%.o: hosts/cpp/%.c $(1)/flags | build/setup
 	@mkdir -p $$(@D)

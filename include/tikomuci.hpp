@@ -18,9 +18,6 @@
 
 #include "tikomuci.h"
 #include "tikomuci_span.hpp"
-#ifdef __cpp_lib_expected
-#include <expected>
-#endif
 
 // A compiler that can give a reason gives this one; others show the line on which it stands.
 #if defined(__cpp_deleted_function) && __cpp_deleted_function >= 202403L
@@ -116,6 +113,14 @@ struct [[nodiscard]] Outcome {
     return {static_cast<Refusal>(answer.refusal), static_cast<Stage>(answer.stage)};
 }
 
+namespace detail {
+
+template <typename Expected, typename Value, typename Error>
+using expects_t = std::enable_if_t<
+    std::is_same_v<typename Expected::value_type, Value> && std::is_same_v<typename Expected::error_type, Error>, int>;
+
+}  // namespace detail
+
 /// What a call answers that has a value: the value, or a refusal and no value. It is reached by `*` and `->`, which
 /// assert that the call was accepted, and only of an answer that has a name: one that nobody looked at has no value to
 /// give. Without assertions the value of a refusal is an empty one, and never memory of somebody else.
@@ -147,14 +152,15 @@ class [[nodiscard]] Got {
         return outcome_ ? std::move(value_) : static_cast<Value>(std::forward<Other>(other));
     }
 
-#ifdef __cpp_lib_expected
-    operator std::expected<Value, Outcome>() const & {
-        return outcome_ ? std::expected<Value, Outcome>(value_) : std::unexpected(outcome_);
+    /// As a std::expected<Value, Outcome>, or what a host has in its place with the same names.
+    template <typename Expected, detail::expects_t<Expected, Value, Outcome> = 0>
+    operator Expected() const & {
+        return outcome_ ? Expected(value_) : Expected(typename Expected::unexpected_type(outcome_));
     }
-    operator std::expected<Value, Outcome>() && {
-        return outcome_ ? std::expected<Value, Outcome>(std::move(value_)) : std::unexpected(outcome_);
+    template <typename Expected, detail::expects_t<Expected, Value, Outcome> = 0>
+    operator Expected() && {
+        return outcome_ ? Expected(std::move(value_)) : Expected(typename Expected::unexpected_type(outcome_));
     }
-#endif
 
   private:
     template <typename Self>

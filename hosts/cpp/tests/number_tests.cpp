@@ -22,6 +22,7 @@ void guard_tests();
 void format_tests();
 void memory_tests();
 void cxx17_tests();
+void cxx23_tests();
 void released_tests();
 
 namespace {
@@ -342,6 +343,7 @@ int main() {
     format_tests();
     memory_tests();
     cxx17_tests();
+    cxx23_tests();
     released_tests();
     null_pointers();
     overlapping_spans();

@@ -74,6 +74,15 @@ static_assert(!std::is_copy_constructible_v<Sheet> && !std::is_copy_assignable_v
 static_assert(!std::is_copy_constructible_v<Tables> && !std::is_copy_assignable_v<Tables>);
 static_assert(std::is_same_v<decltype(std::declval<Tables &>().sheet()), const Sheet &>);
 
+// Nothing throws: neither the calls, nor what stands over them.
+static_assert(noexcept(tikomuci_measure(nullptr, 0)) &&noexcept(tikomuci_f8e5m2(0)));
+static_assert(noexcept(tikomuci::measure(Bytes())) &&noexcept(tikomuci::constant(Bytes(), 0)));
+static_assert(noexcept(tikomuci::read(Bytes(), Output(), Output())) &&noexcept(tikomuci::read(Bytes())));
+static_assert(noexcept(tikomuci::write(Bytes(), Bytes(), Output())) &&noexcept(tikomuci::image(Bytes())));
+static_assert(noexcept(tikomuci::Reader(Bytes()).varint()) &&noexcept(tikomuci::Writer(Output()).varint(0)));
+static_assert(noexcept(Sheet::open(Bytes(), Bytes())) &&noexcept(*std::declval<const Sheet &>().types().begin()));
+static_assert(std::is_nothrow_move_constructible_v<Tables> && std::is_nothrow_move_assignable_v<Tables>);
+
 template <typename List, typename Value>
 bool holds(const List &list, const std::vector<Value> &values) {
     return list.size() == values.size() && std::equal(values.begin(), values.end(), list.begin());
