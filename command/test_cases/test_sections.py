@@ -78,9 +78,8 @@ class Sections(Case):
 
     def test_a_header_that_is_refused(self):
         self.file("elf", b"\x7fELF\x02\x1b[31m")
-        self.says(
-            1, f'elf: {MAGIC_TEXT} (refusal 4, stage 1)\n10 bytes, beginning with "\\x7fELF\\x02\\x1b[31m"\n', "", "show", "elf"
-        )
+        text = f'elf: {MAGIC_TEXT} (refusal 4, stage 1)\n10 bytes, beginning with "\\x7fELF\\x02\\x1b[31m"\n'
+        self.says(1, text, "", "show", "elf")
 
     def test_every_cut(self):
         data = every().bytes
