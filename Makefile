@@ -66,6 +66,7 @@ command: library
 verdict:
 	@mkdir -p build
 	rt ci 2>&1 | tee build/ci.log
+	tools/edit-costs build/ci.log
 
 library:
 	@mkdir -p build

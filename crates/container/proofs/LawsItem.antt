@@ -1,6 +1,6 @@
 -- A section is its header and its payload: how the code's steps follow the reader of items. Assumes nothing.
 use mathlib.Core.Path.{_≡_, refl, sym, ap, _∙_}
-use Prim.Native.Nat.{ℕ, _+_, _-_, _%_, _<_, _≤_}
+use Prim.Native.Nat.{ℕ, _-_, _%_, _<_, _≤_}
 use native.Mathlib.Omega.{arith}
 use native.Mathlib.Decide.{ℕ-discrete, decLt}
 use mathlib.Core.Option.{Option, none, some}
@@ -9,20 +9,19 @@ use lib.ListN.{length}
 use Rattle.exact.specs.Got.{Got, got, stop, follow}
 use Rattle.exact.specs.Exact.{Parser}
 use Rattle.exact.specs.Basic.{byte, pure}
-use Rattle.exact.specs.Sequence.{bind, map}
+use Rattle.exact.specs.Sequence.{bind, mapped}
 use Rattle.exact.specs.Choice.{choose}
 use Rattle.exact.specs.Fixed.{raw, Raw, raw-of}
 use Rattle.exact.specs.Upto.{place}
-use Rattle.exact.proofs.LawsExact.{stop-not-got, got-next}
 use Rattle.exact.proofs.LawsBasic.{pure-exact}
 use Rattle.exact.proofs.LawsSequence.{follow-inv, bind-exact, bind-got, bind-stop}
 use Rattle.exact.proofs.LawsChoice.{choose-yes, choose-no, choose-exact}
 use Rattle.exact.proofs.LawsFixed.{raw-exact}
-use Rattle.exact.proofs.LawsSteps.{byte-at, byte-end}
 use Rattle.enums.specs.Container.{endOfBytecode}
 use Rattle.reading.specs.Numbers.{varintAt, paddingAt, placed}
 use Rattle.reading.proofs.LawsNumbers.{varint-exact, padding-exact}
 use Rattle.reading.proofs.LawsPlaced.{placed-got, placed-stop}
+use Rattle.reading.proofs.LawsInside.{byte-in}
 use Rattle.format.specs.Sections.{Section}
 use Rattle.format.specs.DecodeContainer.{alignmentAt, sectionAt, itemAt}
 use Rattle.container.specs.declared.sections.SectionHeader.{SectionHeader}
@@ -36,14 +35,14 @@ sectionOf h k p = record { id = h .id; start = k; payload = p }
 unfoldable behind : SectionHeader → Parser (Option Section)
 behind h =
     choose (ℕ-discrete (h .id) endOfBytecode) (pure none)
-    (bind place (λ k. map (λ p. some (sectionOf h k p)) (raw (h .«data_len»))))
+    (bind place (λ k. mapped (λ p. some (sectionOf h k p)) (raw (h .«data_len»))))
 
 module _ (l : List ℕ) (first : ℕ) where
   abbrev header : ℕ → SectionHeader
   header n = record { id = first % 128; «data_len» = n }
 
   abbrev payloadAt : ℕ → Parser Section
-  payloadAt n = bind place (λ k. map (λ p. sectionOf (header n) k p) (raw n))
+  payloadAt n = bind place (λ k. mapped (λ p. sectionOf (header n) k p) (raw n))
 
   payload-of : (n m : ℕ) (g : Got (List ℕ)) →
       follow (follow g (λ p j. got (sectionOf (header n) m p) j)) (λ s j. got (some s) j) ≡
@@ -54,13 +53,13 @@ module _ (l : List ℕ) (first : ℕ) where
 
   not-end : ¬ (first % 128 ≡ endOfBytecode) → (n m : ℕ) →
       behind (header n) l m ≡ follow (raw n l m) (λ p j. got (some (sectionOf (header n) m p)) j)
-  unfolding behind bind place map pure follow
+  unfolding behind bind place mapped pure follow
   not-end h n m = ap (λ p. p l m) (choose-no (ℕ-discrete (first % 128) endOfBytecode) (pure none) _ h)
 
   after-alignment : ¬ (first % 128 ≡ endOfBytecode) → (n : ℕ) (g : Got (Unit {0})) →
       follow (follow g (λ u j. payloadAt n l j)) (λ s j. got (some s) j) ≡
       follow (follow g (λ u j. got (header n) j)) (λ h j. behind h l j)
-  unfolding follow bind place map pure
+  unfolding follow bind place mapped pure
   after-alignment h n (got u m) = payload-of n m (raw n l m) ∙ sym (not-end h n m)
   after-alignment h n (stop c k) = refl
 
@@ -76,15 +75,15 @@ module _ (l : List ℕ) (first : ℕ) where
   end-behind e j = ap (λ p. p l j) (choose-yes (ℕ-discrete (first % 128) endOfBytecode) (pure none) _ e)
 
   after-first : (d : Dec (first % 128 ≡ endOfBytecode)) (j : ℕ) →
-      choose d (pure none) (map some (sectionAt first)) l j ≡
+      choose d (pure none) (mapped some (sectionAt first)) l j ≡
       follow (choose d (pure (header 0)) (bind varintAt (λ n. bind (alignmentAt first) (λ u. pure (header n)))) l j)
       (λ h j. behind h l j)
-  unfolding choose follow pure sectionAt map bind
+  unfolding choose follow pure sectionAt mapped bind
   after-first (yes e) j = sym (end-behind e j)
   after-first (no n) j = after-length n (varintAt l j)
 
 after-byte : (l : List ℕ) (g : Got ℕ) →
-    follow g (λ first j. choose (ℕ-discrete (first % 128) endOfBytecode) (pure none) (map some (sectionAt first)) l j) ≡
+    follow g (λ first j. choose (ℕ-discrete (first % 128) endOfBytecode) (pure none) (mapped some (sectionAt first)) l j) ≡
     follow (follow g (λ first j. choose (ℕ-discrete (first % 128) endOfBytecode) (pure (header l first 0))
     (bind varintAt (λ n. bind (alignmentAt first) (λ u. pure (header l first n)))) l j)) (λ h j. behind h l j)
 unfolding follow
@@ -152,25 +151,18 @@ module _ (l : List ℕ) (i : ℕ) where
         header-got q e =
             sym (header-more ∙ bind-got varintAt _ l j n m (sym v) ∙ bind-got (alignmentAt first) _ l m tt q (sym e))
 
-byte-in : (l : List ℕ) (i b j : ℕ) → byte l i ≡ got b j → (i < length l) × (j ≡ i + 1)
-byte-in l i b j e =
-    elim (decLt i (length l)) [
-      | yes h ↦ (h, got-next (sym e ∙ byte-at l i h))
-      | no h ↦ absurd (stop-not-got (sym (byte-end l i (omega arith)) ∙ e))
-    ]
-
 -- A header that was read takes a byte at least.
 pub header-in : (l : List ℕ) (i : ℕ) (h : SectionHeader) (j : ℕ) → sectionHeaderAt l i ≡ got h j →
     (i < length l) × (i < j)
 unfolding sectionHeaderAt bind alignmentAt
 header-in l i h j e =
     let (first, m, b, f) = follow-inv (byte l i) _ h j e in
-    let (inside, next) = byte-in l i first m b in
+    let (next, inside) = byte-in l i first m (sym b) in
     let aligned = choose-exact (decLt first 128) (pure-exact tt) (bind-exact varint-exact padding-exact) in
     let rest =
     choose-exact (ℕ-discrete (first % 128) endOfBytecode) (pure-exact (header l first 0))
     (bind-exact varint-exact (λ n. bind-exact aligned (λ u. pure-exact (header l first n)))) in
-    (inside, omega (arith, next, rest .sound l m h j f .next))
+    (omega (arith, next, inside), omega (arith, next, rest .sound l m h j f .next))
 
 run-length : {n i : ℕ} {bs v : List ℕ} → Raw n i bs v → length v ≡ n
 run-length (raw-of e) = e
@@ -189,7 +181,7 @@ module _ (l : List ℕ) (i : ℕ) (h : SectionHeader) (j : ℕ) (e : sectionHead
 
   module _ (not : ¬ (h .id ≡ endOfBytecode)) where
     item-payload : itemAt l i ≡ follow (raw (h .«data_len») l j) (λ p q. got (some (sectionOf h j p)) q)
-    unfolding behind bind place map pure follow
+    unfolding behind bind place mapped pure follow
     item-payload =
         item-header l i ∙ bind-got sectionHeaderAt behind l i h j (sym e) ∙
         ap (λ p. p l j) (choose-no (ℕ-discrete (h .id) endOfBytecode) (pure none) _ not)

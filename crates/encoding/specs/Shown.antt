@@ -10,6 +10,10 @@ use Rattle.encoding.specs.declared.Written.the-variants as written
 use Rattle.encoding.specs.declared.Patched.{Patched}
 use Rattle.encoding.specs.declared.Patched.the-variants as patched
 
+-- A new writer stands at the start, and no alignment was asked of it.
+abbrev pub newWriter : EncodingWriter
+newWriter = record { at = 0; «required_alignment» = 1 }
+
 -- The answer of a writer: the place and the alignment of the writer that it hands back, or the refusal's number.
 abbrev pub wroteOf : Written → Wrote
 wroteOf (written.Next w) = wrote (w .at) (w .«required_alignment»)

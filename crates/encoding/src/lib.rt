@@ -10,7 +10,7 @@ ghost use Rattle.enums.specs.Container.{P};
 ghost use Rattle.encoding.specs.Varint.{spelling};
 ghost use Rattle.encoding.specs.Signed.{pattern, signed, zigzag};
 ghost use Rattle.encoding.specs.Out.{put, Tells, flat, countedBytes};
-ghost use Rattle.encoding.specs.Shown.{Writes, Patches, asked};
+ghost use Rattle.encoding.specs.Shown.{newWriter, Writes, Patches, asked};
 ghost use Rattle.encoding.specs.Floats.{WritesFloat};
 use enums::Refusal;
 
@@ -230,7 +230,7 @@ fn put_padding(out: &mut [u8], at: usize, n: usize)
 
 impl EncodingWriter {
     pub fn new() -> Self
-        ensures { λ r. ⌜ (r .at ≡ 0) × (r .«required_alignment» ≡ 1) ⌝ }
+        ensures { λ r. ⌜ r ≡ newWriter ⌝ }
     {
         Self {
             at: 0,

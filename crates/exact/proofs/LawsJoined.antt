@@ -9,7 +9,7 @@ use lib.Seq.{drop-cons}
 use Rattle.exact.specs.Got.{Got, got, stop, follow}
 use Rattle.exact.specs.Exact.{Parser}
 use Rattle.exact.specs.Basic.{pure}
-use Rattle.exact.specs.Sequence.{bind, map}
+use Rattle.exact.specs.Sequence.{bind, mapped}
 use Rattle.exact.specs.Repeat.{times}
 use Rattle.exact.specs.Tiling.{endOf}
 use Rattle.exact.specs.Until.{goOn, until}
@@ -47,7 +47,7 @@ module _ {A : Type 0} (p : Parser A) (done : List A) (l : List ℕ) (i : ℕ) wh
   -- .. one is read ..
   pub times-one-more : (n : ℕ) (v : A) (j : ℕ) → p l i ≡ got v j →
       joined done (times (suc n) p l i) ≡ joined (done ++ (v ∷ [])) (times n p l j)
-  unfolding times bind map pure follow
+  unfolding times bind mapped pure follow
   times-one-more n v j e = rw e (joined-more done v (times n p l j))
 
   -- .. or one is refused.
@@ -84,7 +84,7 @@ module _ {A : Type 0} (p : Parser (Option A)) (done : List A) (l : List ℕ) (i 
 
   -- .. an item ..
   pub until-item : (v : A) (j : ℕ) → p l i ≡ got (some v) j → joined done (until p l i) ≡ joined (done ++ (v ∷ [])) (until p l j)
-  unfolding bind follow goOn pure map
+  unfolding bind follow goOn pure mapped
   until-item v j e = rw (step, e) (joined-more done v (until p l j))
 
   -- .. or a refusal.

@@ -8,7 +8,7 @@ use lib.ListN.{length, drop, replicate}
 use Rattle.exact.specs.Got.{Got, got, stop, ended, follow}
 use Rattle.exact.specs.Exact.{Parser}
 use Rattle.exact.specs.Basic.{byte, byteOf, pure, fail}
-use Rattle.exact.specs.Sequence.{bind, map}
+use Rattle.exact.specs.Sequence.{bind, mapped}
 use Rattle.exact.specs.Choice.{choose, such}
 use Rattle.exact.specs.Repeat.{times, counted}
 use Rattle.exact.specs.Fixed.{raw, little, fixed}
@@ -75,8 +75,8 @@ module _ {P : ℕ → Type 0} where
   unfolding bind
   only-bind {f = f} x y = record { each = λ l i. says-follow (λ v j. f v l j) (x .each l i) (λ v j. y v .each l j) }
 
-  pub only-map : {A B : Type 0} (f : A → B) {p : Parser A} → Only P p → Only P (map f p)
-  unfolding map
+  pub only-map : {A B : Type 0} (f : A → B) {p : Parser A} → Only P p → Only P (mapped f p)
+  unfolding mapped
   only-map f x = only-bind x (λ v. only-pure (f v))
 
   pub only-such : {A : Type 0} {Q : A → Type 0} (c : ℕ) (d : (v : A) → Dec (Q v)) {p : Parser A} → P c → Only P p → Only P (such c d p)

@@ -1,5 +1,5 @@
 -- One exact parser after another is exact, and so is a function of what one reads. Assumes nothing.
-use mathlib.Core.Path.{_≡_, refl, sym, ap, _∙_, subst}
+use mathlib.Core.Path.{_≡_, refl, ap, _∙_, subst}
 use Prim.Native.Nat.{ℕ, _+_}
 use native.Mathlib.Nat.{add-assoc}
 use native.Mathlib.Omega.{arith}
@@ -7,8 +7,8 @@ use mathlib.Core.List.{List, [], _++_, append-assoc, append-nil}
 use lib.ListN.{length, drop, length-append}
 use Rattle.exact.specs.Got.{Got, got, stop, follow}
 use Rattle.exact.specs.Exact.{Parser, Lang, Reads, Exact, Ends}
-use Rattle.exact.specs.Basic.{pure, Is, is}
-use Rattle.exact.specs.Sequence.{bind, Then, then, map, Of, of}
+use Rattle.exact.specs.Basic.{Is, is}
+use Rattle.exact.specs.Sequence.{bind, Then, then, mapped, Of, of}
 use Rattle.exact.proofs.LawsExact.{drop-past, stop-not-got, same-exact}
 use Rattle.exact.proofs.LawsBasic.{pure-exact}
 
@@ -18,6 +18,13 @@ pub follow-inv : {A B : Type 0} (g : Got A) (f : A → ℕ → Got B) (w : B) (k
 unfolding follow
 follow-inv (got v j) f w k e = (v, j, refl, e)
 follow-inv (stop c j) f w k e = absurd (stop-not-got e)
+
+-- Of three steps it does not matter which two are taken first.
+pub follow-follow : {A B C : Type 0} (g : Got A) (f : A → ℕ → Got B) (h : B → ℕ → Got C) →
+    follow (follow g f) h ≡ follow g (λ v j. follow (f v j) h)
+unfolding follow
+follow-follow (got v j) f h = refl
+follow-follow (stop c k) f h = refl
 
 -- Where the first has answered, the second goes on from there.
 pub bind-got : {A B : Type 0} (p : Parser A) (f : A → Parser B) (l : List ℕ) (i : ℕ) (v : A) (j : ℕ) → got v j ≡ p l i →
@@ -85,6 +92,6 @@ then-of : {A B : Type 0} (f : A → B) {R : Lang A} (i : ℕ) (bs : List ℕ) (w
 then-of f {R} i bs w (of {v = v} r) = let t : Then R (λ v. Is (f v)) i (bs ++ []) (f v) = then r is in rw append-nil at t
 
 -- A function of what an exact parser reads is read exactly.
-pub map-exact : {A B : Type 0} (f : A → B) {p : Parser A} {R : Lang A} → Exact p R → Exact (map f p) (Of f R)
-unfolding map
+pub map-exact : {A B : Type 0} (f : A → B) {p : Parser A} {R : Lang A} → Exact p R → Exact (mapped f p) (Of f R)
+unfolding mapped
 map-exact f x = same-exact (bind-exact x (λ v. pure-exact (f v))) (λ i bs w. (of-then f i bs w, then-of f i bs w))

@@ -10,7 +10,7 @@ use lib.ListN.{length, take, drop, getD, length-drop, drop-of-length-le}
 use lib.Seq.{drop-cons, drop-drop}
 use Rattle.exact.specs.Got.{got, stop, ended, follow}
 use Rattle.exact.specs.Basic.{byte, byteOf, pure}
-use Rattle.exact.specs.Sequence.{bind, map}
+use Rattle.exact.specs.Sequence.{bind, mapped}
 use Rattle.exact.specs.Repeat.{times}
 use Rattle.exact.specs.Fixed.{raw, little, fixed, nums}
 use Rattle.exact.proofs.LawsChoice.{choose-yes, choose-no}
@@ -37,12 +37,12 @@ raw-end n l i h = choose-no (decLe n (length (drop i l))) _ _ (omega (arith, len
 
 -- A number of w bytes that is there ..
 pub fixed-at : (w : ℕ) (l : List ℕ) (i : ℕ) → w ≤ length l - i → fixed w l i ≡ got (little (take w (drop i l))) (i + w)
-unfolding fixed map bind follow pure
+unfolding fixed mapped bind follow pure
 fixed-at w l i h = rw (raw-at w l i h)
 
 -- .. and one that is not.
 pub fixed-end : (w : ℕ) (l : List ℕ) (i : ℕ) → length l - i < w → fixed w l i ≡ stop ended i
-unfolding fixed map bind follow
+unfolding fixed mapped bind follow
 fixed-end w l i h = rw (raw-end w l i h)
 
 -- Number k of them.
@@ -56,7 +56,7 @@ nums-at (suc n) w s (suc k) h =
 
 -- n numbers that are there ..
 pub times-at : (n w : ℕ) (l : List ℕ) (i : ℕ) → n * w ≤ length l - i → times n (fixed w) l i ≡ got (nums n w (drop i l)) (i + n * w)
-unfolding times nums pure bind follow map
+unfolding times nums pure bind follow mapped
 times-at zero w l i h = rw (zero-mul, add-zero)
 times-at (suc n) w l i h =
     let m : w ≤ length l - i = omega arith in
@@ -67,7 +67,7 @@ times-at (suc n) w l i h =
 -- .. and where only k of them are, the next one breaks where it begins.
 pub times-end : (n w : ℕ) (l : List ℕ) (i k : ℕ) → k < n → k * w ≤ length l - i → length l - i < suc k * w →
     times n (fixed w) l i ≡ stop ended (i + k * w)
-unfolding times bind follow map
+unfolding times bind follow mapped
 times-end zero w l i k h a b = absurd (not-suc-le-zero h)
 times-end (suc n) w l i zero h a b =
     let m : length l - i < w = omega arith in

@@ -9,7 +9,7 @@ use lib.ListN.{length, drop, length-append, length-drop}
 use Rattle.exact.specs.Got.{Got, got, stop, ended, follow}
 use Rattle.exact.specs.Exact.{Parser, Lang, Reads, Exact}
 use Rattle.exact.specs.Basic.{pure, fail}
-use Rattle.exact.specs.Sequence.{bind, map}
+use Rattle.exact.specs.Sequence.{bind, mapped}
 use Rattle.exact.specs.Until.{goOn, untilFrom, until, Until, end, item}
 use Rattle.exact.proofs.LawsExact.{drop-past, stop-not-got, reads-as}
 use Rattle.exact.proofs.LawsSequence.{follow-inv}
@@ -31,7 +31,7 @@ module _ {A : Type 0} {p : Parser (Option A)} {R : Lang (Option A)} (x : Exact p
   go-on-sound : (q : Parser (List A)) →
       ((l : List ℕ) (i : ℕ) (vs : List A) (k : ℕ) → q l i ≡ got vs k → Reads (Until R) l i vs k) →
       (l : List ℕ) (i j k : ℕ) (o : Option A) (vs : List A) → Reads R l i o j → goOn o q l j ≡ got vs k → Reads (Until R) l i vs k
-  unfolding goOn pure map bind
+  unfolding goOn pure mapped bind
   go-on-sound q h l i j k none vs r e = end-reads l i j k vs r e
   go-on-sound q h l i j k (some v) vs r e =
       let (ws, m, g, y) = follow-inv (q l j) (λ ws m. got (v ∷ ws) m) vs k e in
@@ -47,7 +47,7 @@ module _ {A : Type 0} {p : Parser (Option A)} {R : Lang (Option A)} (x : Exact p
   module _ (some-bytes : (i : ℕ) (bs : List ℕ) (o : Option A) → R i bs o → 1 ≤ length bs) where
     from-complete : (n : ℕ) (l : List ℕ) (i : ℕ) (bs rest : List ℕ) (vs : List A) → Until R i bs vs → length bs ≤ n →
         drop i l ≡ bs ++ rest → untilFrom n p l i ≡ got vs (i + length bs)
-    unfolding untilFrom bind follow goOn pure map
+    unfolding untilFrom bind follow goOn pure mapped
     from-complete zero l i bs rest vs (end r) h d = absurd (omega (arith, some-bytes i bs none r))
     from-complete (suc n) l i bs rest vs (end r) h d = rw (x .complete l i bs rest none r d)
     from-complete zero l i bs rest vs (item {bs = b} {cs = c} {v = v} r u) h d =
@@ -76,7 +76,7 @@ module _ {A : Type 0} {p : Parser (Option A)} {R : Lang (Option A)} (x : Exact p
   -- What goes on the same way from each item is the same.
   same-on : (q r : Parser (List A)) (l : List ℕ) (i : ℕ) → ((v : A) (j : ℕ) → p l i ≡ got (some v) j → q l j ≡ r l j) →
       (g : Got (Option A)) → p l i ≡ g → follow g (λ o j. goOn o q l j) ≡ follow g (λ o j. goOn o r l j)
-  unfolding follow goOn map bind
+  unfolding follow goOn mapped bind
   same-on q r l i h (got none j) e = refl
   same-on q r l i h (got (some v) j) e = rw (h v j e)
   same-on q r l i h (stop c k) e = refl

@@ -9,7 +9,7 @@ use lib.ListN.{length, drop}
 use Rattle.exact.specs.Got.{got, follow}
 use Rattle.exact.specs.Exact.{Parser, Lang, Exact, Ends}
 use Rattle.exact.specs.Choice.{choose, If, so, else}
-use Rattle.exact.specs.Sequence.{map, bind, Of, of}
+use Rattle.exact.specs.Sequence.{mapped, bind, Of, of}
 use Rattle.exact.specs.Basic.{pure}
 use Rattle.exact.specs.Upto.{upto, Upto, upto-of, whole, Whole, whole-of, place, At, at}
 use Rattle.exact.proofs.LawsExact.{same-ends, got-value, got-next}
@@ -66,18 +66,18 @@ choose-ends (yes h) x y = same-ends x (λ i bs v. (λ r. so h r, λ s. elim s [ 
 choose-ends (no h) x y = same-ends y (λ i bs v. (λ r. else h r, λ s. elim s [ so k r ↦ absurd (h k) | else n s ↦ s ]))
 
 module _ {A B : Type 0} (f : A → B) {p : Parser A} {R : Lang A} (x : Ends p R) where
-  map-sound : (l : List ℕ) (i : ℕ) (w : B) (j : ℕ) → map f p l i ≡ got w j → Of f R i (drop i l) w × (j ≡ length l)
-  unfolding map bind pure
+  map-sound : (l : List ℕ) (i : ℕ) (w : B) (j : ℕ) → mapped f p l i ≡ got w j → Of f R i (drop i l) w × (j ≡ length l)
+  unfolding mapped bind pure
   map-sound l i w j e =
       let (v, k, g, h) = follow-inv (p l i) (λ v j. got (f v) j) w j e in
       let r = x .sound l i v k g in
       let s : Of f R i (drop i l) (f v) = of (r .0) in
       (rw (← got-value h) s, sym (got-next h) ∙ r .1)
 
-  map-complete : (l : List ℕ) (i : ℕ) (bs : List ℕ) (w : B) → Of f R i bs w → drop i l ≡ bs → map f p l i ≡ got w (length l)
-  unfolding map bind pure follow
+  map-complete : (l : List ℕ) (i : ℕ) (bs : List ℕ) (w : B) → Of f R i bs w → drop i l ≡ bs → mapped f p l i ≡ got w (length l)
+  unfolding mapped bind pure follow
   map-complete l i bs w (of {v = v} r) d = rw (x .complete l i v (rw d r))
 
   -- A function of what is read to the end.
-  pub map-ends : Ends (map f p) (Of f R)
+  pub map-ends : Ends (mapped f p) (Of f R)
   map-ends = record { sound = map-sound; complete = λ l i w r. map-complete l i (drop i l) w r refl }

@@ -6,7 +6,7 @@ use mathlib.Core.List.{List, [], _∷_}
 use lib.ListN.{length, take, drop}
 use Rattle.exact.specs.Got.{got, stop, ended}
 use Rattle.exact.specs.Exact.{Parser, Lang}
-use Rattle.exact.specs.Sequence.{map, Of}
+use Rattle.exact.specs.Sequence.{mapped, Of}
 use Rattle.exact.specs.Choice.{choose}
 
 -- n bytes as they stand. Where fewer are left, the run broke where it began.
@@ -29,7 +29,7 @@ bytesOf (suc w) n = n % 256 ∷ bytesOf w (n / 256)
 
 -- A number of w bytes.
 unfoldable pub fixed : ℕ → Parser ℕ
-fixed w = map little (raw w)
+fixed w = mapped little (raw w)
 
 -- w bytes stand for the number that they are.
 abbrev pub Fixed : ℕ → Lang ℕ

@@ -4,12 +4,12 @@ use mathlib.Core.List.{List, [], _∷_, _++_}
 use lib.ListN.{length}
 use Rattle.exact.specs.Exact.{Parser}
 use Rattle.exact.specs.Basic.{pure}
-use Rattle.exact.specs.Sequence.{bind, map}
+use Rattle.exact.specs.Sequence.{bind, mapped}
 
 -- n values by p.
 unfoldable pub times : {A : Type 0} → ℕ → Parser A → Parser (List A)
 times zero p = pure []
-times (suc n) p = bind p (λ v. map (λ vs. v ∷ vs) (times n p))
+times (suc n) p = bind p (λ v. mapped (λ vs. v ∷ vs) (times n p))
 
 -- n values of R, each right behind the one before.
 pub data Many {A : Type 0} (R : ℕ → List ℕ → A → Type 0) : ℕ → ℕ → List ℕ → List A → Type 0 where

@@ -15,8 +15,8 @@ pub data Then {A B : Type 0} (R : ℕ → List ℕ → A → Type 0) (S : A → 
   then : {i : ℕ} {bs cs : List ℕ} {v : A} {w : B} → R i bs v → S v (i + length bs) cs w → Then R S i (bs ++ cs) w
 
 -- What p reads, by a function.
-unfoldable pub map : {A B : Type 0} → (A → B) → Parser A → Parser B
-map f p = bind p (λ v. pure (f v))
+unfoldable pub mapped : {A B : Type 0} → (A → B) → Parser A → Parser B
+mapped f p = bind p (λ v. pure (f v))
 
 -- What stands for v in R stands for f v.
 pub data Of {A B : Type 0} (f : A → B) (R : ℕ → List ℕ → A → Type 0) : ℕ → List ℕ → B → Type 0 where

@@ -6,12 +6,12 @@ use lib.ListN.{length}
 use Rattle.exact.specs.Got.{ended}
 use Rattle.exact.specs.Exact.{Parser}
 use Rattle.exact.specs.Basic.{pure, fail}
-use Rattle.exact.specs.Sequence.{bind, map}
+use Rattle.exact.specs.Sequence.{bind, mapped}
 
 -- After the end marker nothing more; after an item, what q reads.
 unfoldable pub goOn : {A : Type 0} → Option A → Parser (List A) → Parser (List A)
 goOn none q = pure []
-goOn (some v) q = map (λ vs. v ∷ vs) q
+goOn (some v) q = mapped (λ vs. v ∷ vs) q
 
 -- Items by p until it answers none, where n bytes are left; each item takes one at least.
 unfoldable pub untilFrom : {A : Type 0} → ℕ → Parser (Option A) → Parser (List A)

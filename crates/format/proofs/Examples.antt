@@ -9,7 +9,7 @@ use mathlib.Core.List.{List, [], _∷_, _++_}
 use lib.ListN.{length, getD}
 use Rattle.exact.specs.Got.{follow}
 use Rattle.exact.specs.Basic.{byteOf, byte, pure, fail}
-use Rattle.exact.specs.Sequence.{bind, map}
+use Rattle.exact.specs.Sequence.{bind, mapped}
 use Rattle.exact.specs.Choice.{choose, such}
 use Rattle.exact.specs.Repeat.{times, counted}
 use Rattle.exact.specs.Fixed.{raw, little, fixed}
@@ -23,11 +23,11 @@ use Rattle.enums.specs.Version.{classOf}
 use Rattle.enums.specs.Types.{typeTags}
 use Rattle.enums.specs.Debug as di
 use Rattle.enums.specs.declared.VersionClass.the-variants.{From13_4}
+use Rattle.enums.specs.Debug.{fieldCounts}
 use Rattle.reading.specs.Numbers.{digits, varintAt, paddingAt, countedAt}
 use Rattle.format.specs.Tables.{Tables, partitionView}
 use Rattle.format.specs.Items.{truth}
 use Rattle.format.specs.Types.{plainTags, among}
-use Rattle.format.specs.Debug.{fieldCounts}
 use Rattle.format.specs.Read.{Read, accepted, refused, atStage, mapRead}
 use Rattle.format.specs.DecodeContainer.{magicAt, headerAt, alignmentAt, sectionAt, itemAt, sectionsAt, later, lastWith, placeOf, placesOf, inSection}
 use Rattle.format.specs.DecodeTables.{fieldAt, indicesAt, paddedAt, offsetTableAt, stringsAt, constantsAt, producerAt}
@@ -105,7 +105,7 @@ spans =
 
 -- The examples: what is accepted, what is refused, where the rows of the file with every table stand, and the views.
 pub examples-answered : Answered acceptedExamples × Answered refusedExamples × (placed everyTable ≡ accepted everyPlaced) × (views ≡ spans)
-unfolding follow byteOf byte pure fail bind map choose such times counted raw little fixed literal broke blamed here gap pad
+unfolding follow byteOf byte pure fail bind mapped choose such times counted raw little fixed literal broke blamed here gap pad
     cut consed cuts refuse pickAt upto whole place goOn untilFrom until raised cutLeast entry entriesOf rows entries
     digits varintAt paddingAt countedAt classOf truth atStage mapRead decLe decLt ℕ-discrete
     magicAt headerAt alignmentAt sectionAt itemAt sectionsAt later lastWith placeOf placesOf inSection

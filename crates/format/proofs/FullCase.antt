@@ -9,7 +9,7 @@ use mathlib.Core.Option.{some}
 use lib.ListN.{length}
 use Rattle.exact.specs.Got.{follow}
 use Rattle.exact.specs.Basic.{byte, byteOf, pure}
-use Rattle.exact.specs.Sequence.{bind, map}
+use Rattle.exact.specs.Sequence.{bind, mapped}
 use Rattle.exact.specs.Choice.{choose, such}
 use Rattle.exact.specs.Repeat.{times, counted}
 use Rattle.exact.specs.Fixed.{raw, bytesOf}
@@ -185,7 +185,7 @@ unfolding image headerBytes partsOf stringPart isNamed producerBytes producerPar
 full-image = refl
 
 pub full-judged : tablesOf fullSheet fullPool ≡ some full
-unfolding tablesOf withPool cutting withBodies runs judged endingAt frameAt producerAt producerOf versionAt tablesAt tableAt startsHere contentsAt attributeAt functionAt globalAt typeAt kindAt functionTypeAt stridedViewAt gatherScatterViewAt partitionViewAt tensorViewAt tileAt pointerAt listAt same? both? either? not? all? fits? since3? since4? onlyIf? bit0? optionalByte? plain? type? global? function? attribute? inside? version? fieldWords attributeFields total poolLength classOf follow byte byteOf pure bind map choose such times counted raw here decLe decLt ℕ-discrete
+unfolding tablesOf withPool cutting withBodies runs judged endingAt frameAt producerAt producerOf versionAt tablesAt tableAt startsHere contentsAt attributeAt functionAt globalAt typeAt kindAt functionTypeAt stridedViewAt gatherScatterViewAt partitionViewAt tensorViewAt tileAt pointerAt listAt same? both? either? not? all? fits? since3? since4? onlyIf? bit0? optionalByte? plain? type? global? function? attribute? inside? version? fieldWords attributeFields total poolLength classOf follow byte byteOf pure bind mapped choose such times counted raw here decLe decLt ℕ-discrete
 full-judged = refl
 
 -- The image made by hand reads as the tables.

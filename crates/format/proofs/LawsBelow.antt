@@ -12,7 +12,7 @@ use lib.Seq.{length-take-le}
 use Rattle.exact.specs.Got.{Got, got, stop, follow}
 use Rattle.exact.specs.Exact.{Parser}
 use Rattle.exact.specs.Basic.{byte, pure, fail}
-use Rattle.exact.specs.Sequence.{bind, map}
+use Rattle.exact.specs.Sequence.{bind, mapped}
 use Rattle.exact.specs.Choice.{choose, such}
 use Rattle.exact.specs.Repeat.{times, counted}
 use Rattle.exact.specs.Fixed.{raw, little, fixed}
@@ -27,13 +27,14 @@ use Rattle.exact.proofs.LawsSteps.{byte-at, byte-end, raw-at, raw-end}
 use Rattle.enums.specs.Container.{hintsFlag}
 use Rattle.enums.specs.Refusals as refusals
 use Rattle.enums.specs.declared.VersionClass.{VersionClass}
+use Rattle.enums.specs.Version.{since13·3, since13·4}
+use Rattle.enums.specs.Debug.{fieldCounts}
 use Rattle.reading.specs.Numbers.{digits, varintAt, paddingAt, countedAt}
 use Rattle.format.specs.Tables.{plain, Attribute}
-use Rattle.format.specs.Items.{since13·3, since13·4}
 use Rattle.format.specs.Strings.{noRows}
 use Rattle.format.specs.Types.{plainTags, among, valuesOf}
 use Rattle.format.specs.Functions.{apart}
-use Rattle.format.specs.Debug.{fieldCounts, attributeOf}
+use Rattle.format.specs.Debug.{attributeOf}
 use Rattle.format.specs.DecodeTables.{fieldAt, indicesAt, paddedAt, shape, offsetTableAt, stringsAt, constantsAt, producerAt}
 use Rattle.format.specs.DecodeTypes as D
 use Rattle.format.specs.DecodeRows.{globalAt, globalsAt, bodyAt, functionAt, functionsAt}
@@ -128,8 +129,8 @@ module _ (l : List ℕ) where
       record { low = λ i h. follow-below (p l i) (λ v j. f v l j) (length l) (x .low i h) (λ v j k. y v .low j k) }
 
   -- A function of what is read.
-  map-below : {A B : Type 0} (f : A → B) {p : Parser A} → Below l p → Below l (map f p)
-  unfolding map
+  map-below : {A B : Type 0} (f : A → B) {p : Parser A} → Below l p → Below l (mapped f p)
+  unfolding mapped
   map-below f x = bind-below x (λ v. pure-below (f v))
 
   times-below : {A : Type 0} (n : ℕ) {p : Parser A} → Below l p → Below l (times n p)

@@ -7,7 +7,7 @@ use mathlib.Core.List.{List, [], _∷_, _++_}
 use mathlib.Core.Option.{none, some}
 use Rattle.exact.specs.Got.{follow}
 use Rattle.exact.specs.Basic.{byte, byteOf, pure}
-use Rattle.exact.specs.Sequence.{bind, map}
+use Rattle.exact.specs.Sequence.{bind, mapped}
 use Rattle.exact.specs.Choice.{choose, such}
 use Rattle.exact.specs.Repeat.{times}
 use Rattle.exact.specs.Fixed.{raw, bytesOf}
@@ -91,5 +91,5 @@ unfolding image headerBytes partsOf stringPart isNamed producerBytes producerPar
 whole-image = refl
 
 pub whole-judged : tablesOf wholeSheet wholePool ≡ some whole
-unfolding tablesOf withPool cutting withBodies runs judged endingAt frameAt producerAt producerOf versionAt tablesAt tableAt startsHere contentsAt same? both? all? fits? inside? version? total poolLength follow byte byteOf pure bind map choose such times raw here decLe decLt ℕ-discrete
+unfolding tablesOf withPool cutting withBodies runs judged endingAt frameAt producerAt producerOf versionAt tablesAt tableAt startsHere contentsAt same? both? all? fits? inside? version? total poolLength follow byte byteOf pure bind mapped choose such times raw here decLe decLt ℕ-discrete
 whole-judged = refl

@@ -9,7 +9,7 @@ use lib.ListN.{length}
 use Rattle.exact.specs.Got.{Got, got}
 use Rattle.exact.specs.Exact.{Parser}
 use Rattle.exact.specs.Basic.{byte, pure}
-use Rattle.exact.specs.Sequence.{bind, map}
+use Rattle.exact.specs.Sequence.{bind, mapped}
 use Rattle.exact.specs.Choice.{choose, such}
 use Rattle.exact.specs.Fixed.{raw, fixed}
 use Rattle.exact.specs.Padding.{blamed}
@@ -38,7 +38,7 @@ headerAt =
     bind magicAt
     (λ m. bind byte
     (λ major. bind byte
-    (λ minor. map (λ tag. record { major = major; minor = minor; tag = tag }) (fixed 2))))
+    (λ minor. mapped (λ tag. record { major = major; minor = minor; tag = tag }) (fixed 2))))
 
 -- Alignment and padding, if the top bit of the section's first byte is set.
 unfoldable pub alignmentAt : ℕ → Parser (Unit {0})
@@ -50,11 +50,11 @@ sectionAt first =
     bind varintAt
     (λ n. bind (alignmentAt first)
     (λ u. bind place
-    (λ k. map (λ p. record { id = first % 128; start = k; payload = p }) (raw n))))
+    (λ k. mapped (λ p. record { id = first % 128; start = k; payload = p }) (raw n))))
 
 -- A section, or none at the end marker.
 unfoldable pub itemAt : Parser (Option Section)
-itemAt = bind byte (λ first. choose (ℕ-discrete (first % 128) endOfBytecode) (pure none) (map some (sectionAt first)))
+itemAt = bind byte (λ first. choose (ℕ-discrete (first % 128) endOfBytecode) (pure none) (mapped some (sectionAt first)))
 
 -- The walk; it stops behind the end marker.
 unfoldable pub sectionsAt : Parser (List Section)

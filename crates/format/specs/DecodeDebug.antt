@@ -8,7 +8,7 @@ use lib.ListN.{length, getD}
 use Rattle.exact.specs.Got.{got, stop}
 use Rattle.exact.specs.Exact.{Parser}
 use Rattle.exact.specs.Basic.{byte}
-use Rattle.exact.specs.Sequence.{bind, map}
+use Rattle.exact.specs.Sequence.{bind, mapped}
 use Rattle.exact.specs.Choice.{choose}
 use Rattle.exact.specs.Repeat.{times}
 use Rattle.exact.specs.Padding.{here}
@@ -17,16 +17,17 @@ use Rattle.exact.specs.Refuse.{refuse}
 use Rattle.exact.specs.Upto.{upto}
 use Rattle.exact.specs.Entries.{Rows, entries}
 use Rattle.enums.specs.Refusals as refusals
+use Rattle.enums.specs.Debug.{fieldCounts}
 use Rattle.reading.specs.Numbers.{varintAt}
 use Rattle.format.specs.Tables.{Attribute}
-use Rattle.format.specs.Debug.{fieldCounts, attributeOf, DebugTables}
+use Rattle.format.specs.Debug.{attributeOf, DebugTables}
 use Rattle.format.specs.DecodeTables.{paddedAt, shape}
 
 -- An attribute; a tag that is not known is refused at its byte.
 unfoldable pub attributeAt : Parser Attribute
 attributeAt =
     upto (here (λ k. bind byte
-    (λ t. choose (decLt t (length fieldCounts)) (map (attributeOf t) (times (getD fieldCounts t 0) varintAt))
+    (λ t. choose (decLt t (length fieldCounts)) (mapped (attributeOf t) (times (getD fieldCounts t 0) varintAt))
     (refuse refusals.debugTag k))))
 
 -- The attributes, each of one byte at least.

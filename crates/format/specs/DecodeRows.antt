@@ -5,7 +5,7 @@ use mathlib.Core.Bool.{true, Bool-discrete}
 use mathlib.Core.List.{List}
 use Rattle.exact.specs.Exact.{Parser}
 use Rattle.exact.specs.Basic.{byte}
-use Rattle.exact.specs.Sequence.{bind, map}
+use Rattle.exact.specs.Sequence.{bind, mapped}
 use Rattle.exact.specs.Choice.{choose}
 use Rattle.exact.specs.Repeat.{counted}
 use Rattle.exact.specs.Fixed.{raw}
@@ -15,9 +15,10 @@ use Rattle.exact.specs.Entries.{Rows}
 use Rattle.enums.specs.Container.{hintsFlag}
 use Rattle.enums.specs.Refusals as refusals
 use Rattle.enums.specs.declared.VersionClass.{VersionClass}
+use Rattle.enums.specs.Version.{since13·3}
 use Rattle.reading.specs.Numbers.{varintAt}
 use Rattle.format.specs.Tables.{Global, Function}
-use Rattle.format.specs.Items.{truth, since13·3}
+use Rattle.format.specs.Items.{truth}
 use Rattle.format.specs.Functions.{Located, apart}
 use Rattle.format.specs.DecodeTables.{fieldAt}
 
@@ -28,7 +29,7 @@ globalAt c =
     (λ type. bind varintAt
     (λ constant. bind varintAt
     (λ alignment. bind (fieldAt (Bool-discrete (since13·3 c) true) byte)
-    (λ visibility. map
+    (λ visibility. mapped
     (λ flag. record {
       name = name;
       type = type;
@@ -37,7 +38,7 @@ globalAt c =
       visibility = visibility;
       constantFlag = flag;
     })
-    (fieldAt (Bool-discrete (since13·3 c) true) (map truth varintAt)))))))
+    (fieldAt (Bool-discrete (since13·3 c) true) (mapped truth varintAt)))))))
 
 unfoldable pub globalsAt : VersionClass → ℕ → Parser (List Global)
 globalsAt c o = upto (counted varintAt (globalAt c))
@@ -47,7 +48,7 @@ unfoldable pub bodyAt : ℕ → ℕ → ℕ → ℕ → ℕ → Parser (Located 
 bodyAt o name signature flags location =
     bind varintAt
     (λ n. bind place
-    (λ k. map
+    (λ k. mapped
     (λ body. record {
       at = o + k;
       value = record { name = name; signature = signature; flags = flags; location = location; body = body };
@@ -66,4 +67,4 @@ functionAt o =
     (refuse refusals.hints k))))))
 
 unfoldable pub functionsAt : ℕ → Parser (Rows Function)
-functionsAt o = map apart (upto (counted varintAt (functionAt o)))
+functionsAt o = mapped apart (upto (counted varintAt (functionAt o)))

@@ -5,7 +5,7 @@ use mathlib.Core.Option.{Option, some}
 use mathlib.Core.List.{List}
 use Rattle.exact.specs.Exact.{Parser}
 use Rattle.exact.specs.Basic.{pure}
-use Rattle.exact.specs.Sequence.{bind, map}
+use Rattle.exact.specs.Sequence.{bind, mapped}
 use Rattle.exact.specs.Choice.{choose, such}
 use Rattle.exact.specs.Repeat.{times, counted}
 use Rattle.exact.specs.Fixed.{fixed}
@@ -47,4 +47,4 @@ constantsAt o = offsetTableAt 8 8 o whole
 
 -- The producer's index, refused at its first byte if outside the n strings.
 unfoldable pub producerAt : ℕ → Parser (Option ℕ)
-producerAt n = upto (map some (blamed (such refusals.noProducer (λ k. decLt k n) varintAt)))
+producerAt n = upto (mapped some (blamed (such refusals.noProducer (λ k. decLt k n) varintAt)))

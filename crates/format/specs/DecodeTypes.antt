@@ -6,7 +6,7 @@ use mathlib.Core.Path.{_≡_}
 use mathlib.Core.List.{List, [], _∷_}
 use Rattle.exact.specs.Exact.{Parser}
 use Rattle.exact.specs.Basic.{byte, pure}
-use Rattle.exact.specs.Sequence.{bind, map}
+use Rattle.exact.specs.Sequence.{bind, mapped}
 use Rattle.exact.specs.Choice.{choose, If}
 use Rattle.exact.specs.Padding.{here}
 use Rattle.exact.specs.Kinds.{Case}
@@ -15,9 +15,10 @@ use Rattle.exact.specs.Upto.{upto}
 use Rattle.enums.specs.Refusals as refusals
 use Rattle.enums.specs.Types as tags
 use Rattle.enums.specs.declared.VersionClass.{VersionClass}
+use Rattle.enums.specs.Version.{since13·3, since13·4}
 use Rattle.reading.specs.Numbers.{varintAt, countedAt}
 use Rattle.format.specs.Tables.{TypeRow, plain, pointer, tile, tensorView, partitionView, gatherScatterView, stridedView, function}
-use Rattle.format.specs.Items.{truth, since13·3, since13·4}
+use Rattle.format.specs.Items.{truth}
 use Rattle.format.specs.Types.{plainTags, among, Pointer, Tile, TensorView, PartitionView, OldPartitionView, GatherScatterView, StridedView, FunctionType, valuesOf}
 use Rattle.format.specs.DecodeTables.{fieldAt, indicesAt, offsetTableAt}
 
@@ -30,10 +31,10 @@ unfoldable pub byteIf : ℕ → Parser ℕ
 byteIf flags = fieldAt (ℕ-discrete (flags % 2) 1) byte
 
 unfoldable pub pointerAt : VersionClass → Parser TypeRow
-pointerAt c = bind (flagsAt c) (λ flags. bind varintAt (λ element. map (λ a. pointer flags element a) (byteIf flags)))
+pointerAt c = bind (flagsAt c) (λ flags. bind varintAt (λ element. mapped (λ a. pointer flags element a) (byteIf flags)))
 
 unfoldable pub tileAt : Parser TypeRow
-tileAt = bind varintAt (λ element. map (λ dims. tile element dims) (countedAt 8))
+tileAt = bind varintAt (λ element. mapped (λ dims. tile element dims) (countedAt 8))
 
 unfoldable pub tensorViewAt : VersionClass → Parser TypeRow
 tensorViewAt c =
@@ -41,7 +42,7 @@ tensorViewAt c =
     (λ flags. bind varintAt
     (λ element. bind (countedAt 8)
     (λ shape. bind (countedAt 8)
-    (λ strides. map (λ a. tensorView flags element shape strides a) (byteIf flags)))))
+    (λ strides. mapped (λ a. tensorView flags element shape strides a) (byteIf flags)))))
 
 unfoldable pub partitionViewAt : Parser TypeRow
 partitionViewAt =
@@ -49,15 +50,15 @@ partitionViewAt =
     (λ flags. bind (countedAt 4)
     (λ shape. bind varintAt
     (λ view. bind (countedAt 4)
-    (λ m. map (λ padding. partitionView flags shape view m padding) (byteIf flags)))))
+    (λ m. mapped (λ padding. partitionView flags shape view m padding) (byteIf flags)))))
 
 unfoldable pub oldPartitionViewAt : Parser TypeRow
 oldPartitionViewAt =
     bind (countedAt 4)
     (λ shape. bind varintAt
     (λ view. bind (countedAt 4)
-    (λ m. bind (map truth byte)
-    (λ presence. map (λ padding. partitionView presence shape view m padding)
+    (λ m. bind (mapped truth byte)
+    (λ presence. mapped (λ padding. partitionView presence shape view m padding)
     (fieldAt (ℕ-discrete presence 1) varintAt)))))
 
 unfoldable pub gatherScatterViewAt : Parser TypeRow
@@ -66,7 +67,7 @@ gatherScatterViewAt =
     (λ flags. bind (countedAt 4)
     (λ shape. bind varintAt
     (λ view. bind varintAt
-    (λ sparse. map (λ padding. gatherScatterView flags shape view sparse padding) (byteIf flags)))))
+    (λ sparse. mapped (λ padding. gatherScatterView flags shape view sparse padding) (byteIf flags)))))
 
 unfoldable pub stridedViewAt : Parser TypeRow
 stridedViewAt =
@@ -75,10 +76,10 @@ stridedViewAt =
     (λ shape. bind (countedAt 4)
     (λ strides. bind varintAt
     (λ view. bind (countedAt 4)
-    (λ m. map (λ padding. stridedView flags shape strides view m padding) (byteIf flags))))))
+    (λ m. mapped (λ padding. stridedView flags shape strides view m padding) (byteIf flags))))))
 
 unfoldable pub functionTypeAt : Parser TypeRow
-functionTypeAt = bind indicesAt (λ inputs. map (λ results. function inputs results) indicesAt)
+functionTypeAt = bind indicesAt (λ inputs. mapped (λ results. function inputs results) indicesAt)
 
 -- The kinds with fields, by tag.
 abbrev pub kinds : VersionClass → List (Case TypeRow)
@@ -106,4 +107,4 @@ unfoldable pub typeEntryAt : VersionClass → Parser TypeRow
 typeEntryAt c = upto (here (λ k. bind varintAt (fieldsAt c k)))
 
 unfoldable pub typesAt : VersionClass → ℕ → Parser (List TypeRow)
-typesAt c o = map valuesOf (offsetTableAt 4 4 o (typeEntryAt c))
+typesAt c o = mapped valuesOf (offsetTableAt 4 4 o (typeEntryAt c))

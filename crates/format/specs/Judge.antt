@@ -48,33 +48,33 @@ listAt = counted word word
 
 -- The fields behind the tag, for each kind of type.
 unfoldable pub pointerAt : Parser TypeRow
-pointerAt = bind word (λ flags. bind word (λ element. sequence.map (pointer flags element) word))
+pointerAt = bind word (λ flags. bind word (λ element. sequence.mapped (pointer flags element) word))
 
 unfoldable pub tileAt : Parser TypeRow
-tileAt = bind word (λ element. sequence.map (tile element) listAt)
+tileAt = bind word (λ element. sequence.mapped (tile element) listAt)
 
 unfoldable pub tensorViewAt : Parser TypeRow
 tensorViewAt =
     bind word (λ flags. bind word (λ element. bind listAt (λ shape. bind listAt (λ strides.
-    sequence.map (tensorView flags element shape strides) word))))
+    sequence.mapped (tensorView flags element shape strides) word))))
 
 unfoldable pub partitionViewAt : Parser TypeRow
 partitionViewAt =
     bind word (λ flags. bind listAt (λ shape. bind word (λ view. bind listAt (λ dims.
-    sequence.map (partitionView flags shape view dims) word))))
+    sequence.mapped (partitionView flags shape view dims) word))))
 
 unfoldable pub gatherScatterViewAt : Parser TypeRow
 gatherScatterViewAt =
     bind word (λ flags. bind listAt (λ shape. bind word (λ view. bind word (λ sparse.
-    sequence.map (gatherScatterView flags shape view sparse) word))))
+    sequence.mapped (gatherScatterView flags shape view sparse) word))))
 
 unfoldable pub stridedViewAt : Parser TypeRow
 stridedViewAt =
     bind word (λ flags. bind listAt (λ shape. bind listAt (λ strides. bind word (λ view. bind listAt (λ dims.
-    sequence.map (stridedView flags shape strides view dims) word)))))
+    sequence.mapped (stridedView flags shape strides view dims) word)))))
 
 unfoldable pub functionTypeAt : Parser TypeRow
-functionTypeAt = bind listAt (λ inputs. sequence.map (function inputs) listAt)
+functionTypeAt = bind listAt (λ inputs. sequence.mapped (function inputs) listAt)
 
 -- "tags are known"
 unfoldable pub kindAt : ℕ → Parser TypeRow
@@ -98,7 +98,7 @@ unfoldable pub globalAt : VersionClass → Parser Global
 globalAt c =
     such refusals.unsound (global? c)
     (bind word (λ name. bind word (λ type. bind word (λ constant. bind word (λ alignment. bind word (λ visibility.
-    sequence.map
+    sequence.mapped
     (λ flag.
     record {
       name = name;
@@ -114,14 +114,14 @@ unfoldable pub functionAt : Parser FunctionRow
 functionAt =
     such refusals.unsound function?
     (bind word (λ name. bind word (λ signature. bind word (λ flags. bind word (λ location.
-    sequence.map
+    sequence.mapped
     (λ n. record { name = name; signature = signature; flags = flags; location = location; bodyLength = n }) word)))))
 
 unfoldable pub attributeAt : Parser Attribute
 attributeAt =
     such refusals.unsound attribute?
     (bind word (λ tag. bind word (λ a. bind word (λ b. bind word (λ c. bind word (λ d. bind word (λ e.
-    sequence.map
+    sequence.mapped
     (λ f. record { tag = tag; field1 = a; field2 = b; field3 = c; field4 = d; field5 = e; field6 = f }) word)))))))
 
 -- Words 5 to 18, and in them the start word and the row count of table k.
@@ -151,7 +151,7 @@ tablesAt version producer cs =
     bind (tableAt cs 3 (globalAt (class version))) (λ globals.
     bind (tableAt cs 4 functionAt) (λ functions.
     bind (tableAt cs 5 attributeAt) (λ attributes.
-    sequence.map
+    sequence.mapped
     (λ lists.
     record {
       version = version;
@@ -171,7 +171,7 @@ unfoldable pub versionAt : Parser Version
 versionAt =
     such refusals.unsound version?
     (bind word (λ major. bind word (λ minor.
-    sequence.map (λ tag. record { major = major; minor = minor; tag = tag }) word)))
+    sequence.mapped (λ tag. record { major = major; minor = minor; tag = tag }) word)))
 
 -- Word 3.
 unfoldable pub producerOf : ℕ → Option ℕ
@@ -179,7 +179,7 @@ producerOf zero = none
 producerOf (suc index) = some index
 
 unfoldable pub producerAt : Parser (Option ℕ)
-producerAt = sequence.map producerOf word
+producerAt = sequence.mapped producerOf word
 
 -- The sheet from its first word on; word 4 is "the sum of the row lengths", and the producer is "inside the strings".
 unfoldable pub frameAt : Parser Frame

@@ -28,8 +28,8 @@ module _ {X : Type 0} (z : X) where
 
   -- .. a function of what is read ..
   pub thru-map : {A B : Type 0} (f : A → B) (p : Parser A) (l : List ℕ) (i : ℕ) (k : B → ℕ → X) →
-      thru z (sequence.map f p l i) k ≡ thru z (p l i) (λ v j. k (f v) j)
-  unfolding sequence.map pure thru
+      thru z (sequence.mapped f p l i) k ≡ thru z (p l i) (λ v j. k (f v) j)
+  unfolding sequence.mapped pure thru
   thru-map f p l i k = thru-bind p (λ v. pure (f v)) l i k
 
   pub thru-pure : {A : Type 0} (v : A) (l : List ℕ) (i : ℕ) (k : A → ℕ → X) → thru z (pure v l i) k ≡ k v i

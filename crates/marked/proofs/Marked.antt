@@ -4,7 +4,7 @@ use native.Mathlib.Decide.{decLe, decLt, ℕ-discrete}
 use native.Mathlib.Omega.{arith}
 use Rattle.exact.specs.Got.{follow}
 use Rattle.exact.specs.Basic.{byteOf, byte, pure, fail}
-use Rattle.exact.specs.Sequence.{bind, map}
+use Rattle.exact.specs.Sequence.{bind, mapped}
 use Rattle.exact.specs.Choice.{choose, such}
 use Rattle.exact.specs.Repeat.{times, counted}
 use Rattle.exact.specs.Fixed.{raw, little, fixed}
@@ -31,7 +31,7 @@ use Rattle.marked.specs.Marked.{Holds, True, wholeCase, marked}
 
 -- The file of the whole case is read as its tables.
 whole-read : decode (wholeCase .file) ≡ accepted (wholeCase .tables)
-unfolding follow byteOf byte pure fail bind map choose such times counted raw little fixed literal broke blamed here gap pad
+unfolding follow byteOf byte pure fail bind mapped choose such times counted raw little fixed literal broke blamed here gap pad
     cut consed cuts upto whole place goOn untilFrom until raised cutLeast entry entriesOf rows entries
     digits varintAt paddingAt classOf atStage mapRead decLe decLt ℕ-discrete
     magicAt headerAt alignmentAt sectionAt itemAt sectionsAt later lastWith placeOf placesOf inSection
@@ -62,7 +62,7 @@ a and b = (a, b)
 
 -- Every row of the marked table holds: (a) to (f); (g), (h), (i); (j); (k); (l).
 pub all-marked : All Holds marked
-unfolding shortest digits varintAt blamed broke follow byteOf byte pure fail bind map choose decLt steps
+unfolding shortest digits varintAt blamed broke follow byteOf byte pure fail bind mapped choose decLt steps
 all-marked =
     refl and refl and refl and refl and refl and refl
     and (((omega arith, refl), tested _ _ _ _ _ _ refl) and tt)

@@ -29,9 +29,9 @@ use Rattle.payloads.proofs.LawsRows.{function-in}
 -- The first of several values, and the others.
 times-inv : {A : Type 0} (q : Parser A) (l : List ℕ) (i n : ℕ) (v : A) (k : ℕ) (ws : List A) (j : ℕ) → q l i ≡ got v k →
     times (suc n) q l i ≡ got ws j → (vs : List A) × (m : ℕ) × (times n q l k ≡ got vs m) × (v ∷ vs ≡ ws)
-unfolding times sequence.map sequence.bind pure
+unfolding times sequence.mapped sequence.bind pure
 times-inv q l i n v k ws j e h =
-    let f = sym (bind-got q (λ v. sequence.map (λ vs. v ∷ vs) (times n q)) l i v k (sym e)) ∙ h in
+    let f = sym (bind-got q (λ v. sequence.mapped (λ vs. v ∷ vs) (times n q)) l i v k (sym e)) ∙ h in
     let (vs, m, a, b) = follow-inv (times n q l k) (λ vs j. got (v ∷ vs) j) ws j f in
     (vs, m, a, got-value b)
 
@@ -99,13 +99,13 @@ module _ (l : List ℕ) (i : ℕ) (f : FuncRow) (k : ℕ) where
 
 -- The section: its count is refused ..
 pub section-stop : (l : List ℕ) (n x k : ℕ) → varintAt l 0 ≡ stop x k → FindsBody l n entry.Absent
-unfolding functionsAt upto counted sequence.bind sequence.map follow
+unfolding functionsAt upto counted sequence.bind sequence.mapped follow
 section-stop l n x k e = record { found = λ o v j f. absurd (stop-not-got (rw e at f)) }
 
 section-found : (o : ℕ) (l : List ℕ) (m i : ℕ) (v : table.Rows Function) (j : ℕ) → varintAt l 0 ≡ got m i → functionsAt o l 0 ≡ got v j →
     (g : Got (List (Located Function))) → times m (functionAt o) l i ≡ g →
     (vs : List (Located Function)) × (k : ℕ) × (times m (functionAt o) l i ≡ got vs k) × (apart vs ≡ v)
-unfolding functionsAt upto counted sequence.bind sequence.map pure follow
+unfolding functionsAt upto counted sequence.bind sequence.mapped pure follow
 section-found o l m i v j e f (got vs k) t = (vs, k, t, got-value (rw (e, t) at f))
 section-found o l m i v j e f (stop x k) t = absurd (stop-not-got (rw (e, t) at f))
 

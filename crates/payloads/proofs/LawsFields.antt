@@ -10,7 +10,7 @@ use lib.ListN.{length, length-append}
 use Rattle.exact.specs.Got.{Got, got, stop, ended, follow}
 use Rattle.exact.specs.Exact.{Parser}
 use Rattle.exact.specs.Basic.{byte, pure}
-use Rattle.exact.specs.Sequence.{bind, map}
+use Rattle.exact.specs.Sequence.{bind, mapped}
 use Rattle.exact.specs.Choice.{choose}
 use Rattle.exact.specs.Repeat.{times, counted}
 use Rattle.exact.specs.Fixed.{fixed}
@@ -30,21 +30,21 @@ use Rattle.payloads.specs.declared.fields.Number.the-variants.{Varint, B
 use Rattle.payloads.specs.declared.fields.SpotRead.{SpotRead}
 use Rattle.payloads.specs.declared.fields.Spot.{Spot}
 use Rattle.payloads.specs.declared.fields.SpotRead.the-variants as spot
-use Rattle.payloads.specs.Fields.{numberAt, fieldIf, one, listed, numbers, valueOf, Put, Copied, Within, Grows, Room}
+use Rattle.payloads.specs.Fields.{numberAt, fieldIf, asWord, listed, numbers, valueOf, Put, Copied, Within, Grows, Room}
 
 -- What a function of a parser's value answers.
 module _ {A B : Type 0} (f : A → B) (p : Parser A) (l : List ℕ) (i : ℕ) where
-  pub map-got : (v : A) (j : ℕ) → p l i ≡ got v j → map f p l i ≡ got (f v) j
-  unfolding map pure
+  pub map-got : (v : A) (j : ℕ) → p l i ≡ got v j → mapped f p l i ≡ got (f v) j
+  unfolding mapped pure
   map-got v j e = bind-got p _ l i v j (sym e)
 
-  pub map-stop : (c k : ℕ) → p l i ≡ stop c k → map f p l i ≡ stop c k
-  unfolding map
+  pub map-stop : (c k : ℕ) → p l i ≡ stop c k → mapped f p l i ≡ stop c k
+  unfolding mapped
   map-stop c k e = bind-stop p _ l i c k (sym e)
 
 -- One step after another, which may depend on the value of the first.
 unfoldable pub then : Parser (ℕ × List ℕ) → (ℕ → Parser (ℕ × List ℕ)) → Parser (ℕ × List ℕ)
-then p q = bind p (λ a. map (λ b. (b .0, a .1 ++ b .1)) (q (a .0)))
+then p q = bind p (λ a. mapped (λ b. (b .0, a .1 ++ b .1)) (q (a .0)))
 
 module _ (p : Parser (ℕ × List ℕ)) (q : ℕ → Parser (ℕ × List ℕ)) (l s s₁ s₂ : List ℕ) (r : SpotRead) where
   second : (a : ℕ × List ℕ) (i j w : ℕ) → p l i ≡ got a j → s₁ ≡ putWords s w (a .1) → (g : Got (ℕ × List ℕ)) → q (a .0) l j ≡ g →
@@ -114,31 +114,31 @@ number-told l i e h = h ∙ ap (λ k. numberAt k l i) (sym e)
 module _ (k : Number) (there : Bool) (l s s' : List ℕ) {from : SpotRead} (at : Spot) (e : from ≡ spot.Got at) where
   -- One number was put.
   one-put : (v j : ℕ) (t : Spot) → fieldIf there (numberAt k) l (at .pos) ≡ got v j → s' ≡ putWord s (at .word) v →
-      t ≡ record { pos = j; word = at .word + 1; value = v } → Copied (one (fieldIf there (numberAt k))) l from s s' (spot.Got t)
-  unfolding putWords Copied Put one
+      t ≡ record { pos = j; word = at .word + 1; value = v } → Copied (asWord (fieldIf there (numberAt k))) l from s s' (spot.Got t)
+  unfolding putWords Copied Put asWord
   one-put v j t g h q =
-      let m : one (fieldIf there (numberAt k)) l (at .pos) ≡ got (v, v ∷ []) j =
+      let m : asWord (fieldIf there (numberAt k)) l (at .pos) ≡ got (v, v ∷ []) j =
       map-got (λ v. (v, v ∷ [])) (fieldIf there (numberAt k)) l (at .pos) v j g in
-      subst (λ b. Copied (one (fieldIf there (numberAt k))) l b s s' (spot.Got t)) (sym e)
+      subst (λ b. Copied (asWord (fieldIf there (numberAt k))) l b s s' (spot.Got t)) (sym e)
       (subst (λ g. Put g (at .word) s s' (spot.Got t)) (sym m) (ap spot.Got q, h))
 
   pub one-absent : (t : Spot) → there ≡ false → s' ≡ putWord s (at .word) 0 →
       t ≡ record { pos = at .pos; word = at .word + 1; value = 0 } →
-      Copied (one (fieldIf there (numberAt k))) l from s s' (spot.Got t)
+      Copied (asWord (fieldIf there (numberAt k))) l from s s' (spot.Got t)
   one-absent t h = one-put 0 (at .pos) t (field-absent (numberAt k) l (at .pos) h)
 
   pub one-there : (v j : ℕ) (t : Spot) → there ≡ true → numberAt k l (at .pos) ≡ got v j → s' ≡ putWord s (at .word) v →
-      t ≡ record { pos = j; word = at .word + 1; value = v } → Copied (one (fieldIf there (numberAt k))) l from s s' (spot.Got t)
+      t ≡ record { pos = j; word = at .word + 1; value = v } → Copied (asWord (fieldIf there (numberAt k))) l from s s' (spot.Got t)
   one-there v j t h g = one-put v j t (ap (λ p. p l (at .pos)) (field-there (numberAt k) h) ∙ g)
 
   pub one-stop : (x : Refused) → there ≡ true → numberAt k l (at .pos) ≡ stop (x .no) (x .at) →
-      Copied (one (fieldIf there (numberAt k))) l from s s' (spot.Stop x)
-  unfolding Copied Put one
+      Copied (asWord (fieldIf there (numberAt k))) l from s s' (spot.Stop x)
+  unfolding Copied Put asWord
   one-stop x h g =
       let f = ap (λ p. p l (at .pos)) (field-there (numberAt k) h) ∙ g in
-      let m : one (fieldIf there (numberAt k)) l (at .pos) ≡ stop (x .no) (x .at) =
+      let m : asWord (fieldIf there (numberAt k)) l (at .pos) ≡ stop (x .no) (x .at) =
       map-stop (λ v. (v, v ∷ [])) (fieldIf there (numberAt k)) l (at .pos) (x .no) (x .at) f in
-      subst (λ b. Copied (one (fieldIf there (numberAt k))) l b s s' (spot.Stop x)) (sym e)
+      subst (λ b. Copied (asWord (fieldIf there (numberAt k))) l b s s' (spot.Stop x)) (sym e)
       (subst (λ g. Put g (at .word) s s' (spot.Stop x)) (sym m) refl)
 
 -- The next word is not far.
@@ -227,7 +227,7 @@ bind-inv p f l i w j e = follow-inv (p l i) (λ v k. f v l k) w j e
 -- n values are n.
 pub times-length : {A : Type 0} (n : ℕ) (p : Parser A) (l : List ℕ) (i : ℕ) (vs : List A) (j : ℕ) → times n p l i ≡ got vs j →
     length vs ≡ n
-unfolding times pure map
+unfolding times pure mapped
 times-length zero p l i vs j e = ap length (sym (got-value e))
 times-length (suc n) p l i vs j e =
     let (v, k, a, b) = bind-inv p _ l i vs j e in
@@ -237,18 +237,18 @@ times-length (suc n) p l i vs j e =
 -- How the loop over numbers goes on.
 module _ (m : ℕ) (k : Number) (l : List ℕ) (i w : ℕ) (s s' : List ℕ) where
   pub numbers-done : (n : ℕ) → n ≤ 0 → s' ≡ s → Put (numbers m n k l i) w s s' (spot.Got record { pos = i; word = w; value = m })
-  unfolding numbers times Put putWords map bind follow pure
+  unfolding numbers times Put putWords mapped bind follow pure
   numbers-done zero h e = (rw add-zero refl, e)
   numbers-done (suc n) h e = let z : ⊥ = omega arith in absurd z
 
   pub numbers-stop : (n : ℕ) (x : Refused) → 0 < n → numberAt k l i ≡ stop (x .no) (x .at) → Put (numbers m n k l i) w s s' (spot.Stop x)
-  unfolding numbers times Put map bind follow
+  unfolding numbers times Put mapped bind follow
   numbers-stop zero x h e = let z : ⊥ = omega arith in absurd z
   numbers-stop (suc n) x h e = rw e refl
 
   numbers-next : (n v j : ℕ) (s₁ : List ℕ) (r : SpotRead) (g : Got (List ℕ)) → numberAt k l i ≡ got v j → s₁ ≡ putWord s w v →
       times n (numberAt k) l j ≡ g → Put (numbers m n k l j) (w + 1) s₁ s' r → Put (numbers m (suc n) k l i) w s s' r
-  unfolding numbers times Put map bind follow pure putWords
+  unfolding numbers times Put mapped bind follow pure putWords
   numbers-next n v j s₁ r (got vs e) a h f x =
       let q : w + 1 + length vs ≡ w + suc (length vs) = omega arith in
       let (y, z) = rw f at x in
@@ -270,25 +270,25 @@ copied-same p q l s s' (spot.Got t) r h x = subst (λ g. Put g (t .word) s s' r)
 copied-same p q l s s' (spot.Stop y) r h x = x
 
 list-stop : (k : Number) (l : List ℕ) (i c m : ℕ) → varintAt l i ≡ stop c m →
-    then (one varintAt) (λ n. numbers n n k) l i ≡ listed k l i
-unfolding then one listed counted map bind follow
+    then (asWord varintAt) (λ n. numbers n n k) l i ≡ listed k l i
+unfolding then asWord listed counted mapped bind follow
 list-stop k l i c m e = rw e
 
 -- A counted list is its count, and then as many numbers.
 module _ (k : Number) (l : List ℕ) (i : ℕ) where
   list-rest : (n j : ℕ) → varintAt l i ≡ got n j → (g : Got (List ℕ)) → times n (numberAt k) l j ≡ g →
-      then (one varintAt) (λ n. numbers n n k) l i ≡ listed k l i
-  unfolding then one numbers listed counted map bind follow pure
+      then (asWord varintAt) (λ n. numbers n n k) l i ≡ listed k l i
+  unfolding then asWord numbers listed counted mapped bind follow pure
   list-rest n j e (got vs m) f =
       let q : length vs ≡ n = times-length n (numberAt k) l j vs m f in
       rw (e, f, q)
   list-rest n j e (stop c m) f = rw (e, f)
 
-  list-count : (g : Got ℕ) → varintAt l i ≡ g → then (one varintAt) (λ n. numbers n n k) l i ≡ listed k l i
+  list-count : (g : Got ℕ) → varintAt l i ≡ g → then (asWord varintAt) (λ n. numbers n n k) l i ≡ listed k l i
   list-count (got n j) e = list-rest n j e (times n (numberAt k) l j) refl
   list-count (stop c m) e = list-stop k l i c m e
 
-  pub list-same : then (one varintAt) (λ n. numbers n n k) l i ≡ listed k l i
+  pub list-same : then (asWord varintAt) (λ n. numbers n n k) l i ≡ listed k l i
   list-same = list-count (varintAt l i) refl
 
 copied-at : (p : Parser (ℕ × List ℕ)) (l : List ℕ) (at : Spot) (s s' : List ℕ) (r : SpotRead) →
@@ -298,24 +298,24 @@ copied-at p l at s s' r x = x
 
 module _ (k : Number) (l s s₁ s' : List ℕ) (from : SpotRead) where
   -- The count was copied ..
-  pub list-got : (at : Spot) (r : SpotRead) → Copied (one (fieldIf true (numberAt Varint))) l from s s₁ (spot.Got at) →
+  pub list-got : (at : Spot) (r : SpotRead) → Copied (asWord (fieldIf true (numberAt Varint))) l from s s₁ (spot.Got at) →
       Put (numbers (at .value) (at .value) k l (at .pos)) (at .word) s₁ s' r → Copied (listed k) l from s s' r
   unfolding numberAt valueOf
   list-got at r x y =
-      let z : Copied (one varintAt) l from s s₁ (spot.Got at) =
-      subst (λ p. Copied (one p) l from s s₁ (spot.Got at)) (field-there varintAt refl) x in
+      let z : Copied (asWord varintAt) l from s s₁ (spot.Got at) =
+      subst (λ p. Copied (asWord p) l from s s₁ (spot.Got at)) (field-there varintAt refl) x in
       copied-same _ _ l s s' from r (list-same k l)
-      (copied-then (one varintAt) (λ n. numbers n n k) l s s₁ s' r from (spot.Got at) z (copied-at _ l at s₁ s' r y))
+      (copied-then (asWord varintAt) (λ n. numbers n n k) l s s₁ s' r from (spot.Got at) z (copied-at _ l at s₁ s' r y))
 
   -- .. or refused.
-  pub list-refused : (x : Refused) → Copied (one (fieldIf true (numberAt Varint))) l from s s₁ (spot.Stop x) →
+  pub list-refused : (x : Refused) → Copied (asWord (fieldIf true (numberAt Varint))) l from s s₁ (spot.Stop x) →
       Copied (listed k) l from s s' (spot.Stop x)
   unfolding numberAt
   list-refused x y =
-      let z : Copied (one varintAt) l from s s₁ (spot.Stop x) =
-      subst (λ p. Copied (one p) l from s s₁ (spot.Stop x)) (field-there varintAt refl) y in
+      let z : Copied (asWord varintAt) l from s s₁ (spot.Stop x) =
+      subst (λ p. Copied (asWord p) l from s s₁ (spot.Stop x)) (field-there varintAt refl) y in
       copied-same _ _ l s s' from (spot.Stop x) (list-same k l)
-      (copied-then (one varintAt) (λ n. numbers n n k) l s s₁ s' (spot.Stop x) from (spot.Stop x) z (copied-stop _ l s₁ s' refl))
+      (copied-then (asWord varintAt) (λ n. numbers n n k) l s s₁ s' (spot.Stop x) from (spot.Stop x) z (copied-stop _ l s₁ s' refl))
 
 -- As many words as bytes behind a step.
 pub grows-more : (l : List ℕ) (from : SpotRead) (at : Spot) (r : SpotRead) → Grows l from (spot.Got at) →
@@ -334,6 +334,6 @@ room-next p l s s' (spot.Got t) at m x h =
 room-next p l s s' (spot.Stop z) at m x h = let n : _≡_ {A = ℕ} 0 1 = cc in let z : ⊥ = omega arith in absurd z
 
 -- One number by parsers that are the same.
-pub copied-as : (p q : Parser ℕ) (l : List ℕ) (from : SpotRead) (s s' : List ℕ) (r : SpotRead) → p ≡ q → Copied (one p) l from s s' r →
-    Copied (one q) l from s s' r
-copied-as p q l from s s' r e h = subst (λ p. Copied (one p) l from s s' r) e h
+pub copied-as : (p q : Parser ℕ) (l : List ℕ) (from : SpotRead) (s s' : List ℕ) (r : SpotRead) → p ≡ q → Copied (asWord p) l from s s' r →
+    Copied (asWord q) l from s s' r
+copied-as p q l from s s' r e h = subst (λ p. Copied (asWord p) l from s s' r) e h

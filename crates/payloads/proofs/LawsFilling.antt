@@ -51,14 +51,14 @@ module _ {A : Type 0} (ws : A → List ℕ) (rs : A → List (List ℕ)) where
     -- .. one is refused ..
     pub filling-stop : (n : ℕ) (x : Refused) → 0 < n → q l i ≡ stop (x .no) (x .at) →
         Filling m (times n q l i) w b s s' p p' (table.Stop x)
-    unfolding times sequence.map sequence.bind follow Filling
+    unfolding times sequence.mapped sequence.bind follow Filling
     filling-stop zero x h e = let z : ⊥ = omega arith in absurd z
     filling-stop (suc n) x h e = rw e refl
 
     filling-next : (n : ℕ) (v : A) (j : ℕ) (s₁ p₁ : List ℕ) (r : TableRead) (g : Got (List A)) → q l i ≡ got v j →
         s₁ ≡ putWords s w (ws v) → p₁ ≡ putRuns p b (rs v) → times n q l j ≡ g →
         Filling m g (w + length (ws v)) (b + length (join (rs v))) s₁ s' p₁ p' r → Filling m (times (suc n) q l i) w b s s' p p' r
-    unfolding times sequence.map sequence.bind follow pure Filling
+    unfolding times sequence.mapped sequence.bind follow pure Filling
     filling-next n v j s₁ p₁ r (got vs k) a e f t (x, y, z) =
         let ww : w + length (ws v) + length (join (map ws vs)) ≡ w + length (ws v ++ join (map ws vs)) =
         omega (arith, length-append (ws v) (join (map ws vs))) in

@@ -150,7 +150,7 @@ module _ {A : Type 0} (p : Parser A) (w a o : ℕ) (l : List ℕ) where
   values-moved i = rw (offset-starts p w a 0 l i, offset-starts p w a o l i) (values-starts (startsAt w a l i))
 
 pub types-moved : (c : VersionClass) (o : ℕ) (l : List ℕ) → typeRows (typesAt c 0 l 0) ≡ typeRows (typesAt c o l 0)
-unfolding typesAt sequence.map sequence.bind pure
+unfolding typesAt sequence.mapped sequence.bind pure
 types-moved c o l = ap typeRows (values-moved (typeEntryAt c) 4 4 o l 0)
 
 -- Functions: without the places of their bodies.
@@ -166,9 +166,9 @@ module _ (at ats : ℕ) (f : List ℕ → Function) where
   run-got (stop c k) = refl
 
   run-moved : (p : Parser (List ℕ)) (l : List ℕ) (i : ℕ) →
-      valued (sequence.map (λ b. record { at = at; value = f b }) p l i) ≡
-      valued (sequence.map (λ b. record { at = ats; value = f b }) p l i)
-  unfolding sequence.map sequence.bind pure
+      valued (sequence.mapped (λ b. record { at = at; value = f b }) p l i) ≡
+      valued (sequence.mapped (λ b. record { at = ats; value = f b }) p l i)
+  unfolding sequence.mapped sequence.bind pure
   run-moved p l i = run-got (p l i)
 
 module _ {A : Type 0} (p : Parser A) (f g : A → Parser (Located Function)) (l : List ℕ)
@@ -234,7 +234,7 @@ first-moved (stop c k) (got w j) a b e h = absurd (let z : _≡_ {A = ℕ} 0 1 =
 first-moved (stop c k) (stop d j) a b e h = cc
 
 times-moved : (o n : ℕ) (l : List ℕ) (i : ℕ) → allValued (times n (functionAt 0) l i) ≡ allValued (times n (functionAt o) l i)
-unfolding times sequence.map sequence.bind pure consed
+unfolding times sequence.mapped sequence.bind pure consed
 times-moved o zero l i = refl
 times-moved o (suc n) l i =
     first-moved (functionAt 0 l i) (functionAt o l i) (λ j. times n (functionAt 0) l j) (λ j. times n (functionAt o) l j)
@@ -259,5 +259,5 @@ count-values o l (got n j) =
 count-values o l (stop c k) = refl
 
 pub functions-moved : (o : ℕ) (l : List ℕ) → functionRows (functionsAt 0 l 0) ≡ functionRows (functionsAt o l 0)
-unfolding functionsAt sequence.map sequence.bind pure upto counted
+unfolding functionsAt sequence.mapped sequence.bind pure upto counted
 functions-moved o l = count-values o l (varintAt l 0)

@@ -6,7 +6,7 @@ use native.Mathlib.Nat.{add-zero}
 use native.Mathlib.Omega.{arith}
 use mathlib.Core.Bool.{true, false, Bool-discrete}
 use mathlib.Core.List.{List, [], _∷_, _++_, map, append-nil}
-use lib.ListN.{length, take, drop, length-append, length-drop}
+use lib.ListN.{length, drop, length-append, length-drop}
 use Rattle.exact.specs.Got.{Got, got, stop, follow}
 use Rattle.exact.specs.Exact.{Parser}
 use Rattle.exact.specs.Basic.{byte, pure}
@@ -22,6 +22,7 @@ use Rattle.exact.proofs.LawsChoice.{choose-yes, choose-no}
 use Rattle.enums.specs.Container.{hintsFlag}
 use Rattle.enums.specs.Refusals as refusals
 use Rattle.enums.specs.declared.VersionClass.{VersionClass}
+use Rattle.enums.specs.Version.{since13·3}
 use Rattle.encoding.proofs.LawsVarint.{digits-some}
 use Rattle.encoding.specs.Out.{put}
 use Rattle.sheet.specs.Store.{putWord, putWords, putRuns}
@@ -29,7 +30,7 @@ use Rattle.sheet.proofs.LawsStore.{putWords-append}
 use Rattle.reading.specs.Numbers.{varintAt, placed}
 use Rattle.reading.proofs.LawsPlaced.{placed-got, placed-stop}
 use Rattle.format.specs.Tables.{Global, Function}
-use Rattle.format.specs.Items.{truth, since13·3}
+use Rattle.format.specs.Items.{truth}
 use Rattle.format.specs.Globals.{GlobalRow, global}
 use Rattle.format.specs.Functions.{Located, apart, FunctionRow, function}
 use Rattle.format.specs.DecodeTables.{fieldAt}
@@ -43,19 +44,10 @@ use Rattle.payloads.specs.declared.rows.FuncRow.{FuncRow}
 use Rattle.payloads.specs.Rows.{linkageAt, globalRows, rowOf, bytesIn, locatedIn, bodied, locatedRows, functionRows}
 use Rattle.payloads.proofs.LawsFilling.{Filling, filling-more, filling-fills, fills-upto}
 
--- A flag is 0 or 1.
-pub truth-zero : (v : ℕ) → v ≡ 0 → 0 ≡ truth v
-unfolding truth
-truth-zero v h = sym (choose-yes (ℕ-discrete v 0) 0 1 h)
-
-pub truth-more : (v : ℕ) → ¬ (v ≡ 0) → 1 ≡ truth v
-unfolding truth
-truth-more v h = sym (choose-no (ℕ-discrete v 0) 0 1 h)
-
 -- Visibility and flag below 13.3 ..
 module _ (c : VersionClass) (l : List ℕ) (i : ℕ) where
   pub linkage-none : since13·3 c ≡ false → linkageAt c l i ≡ got (0, 0) i
-  unfolding linkageAt fieldAt choose pure sequence.map sequence.bind follow
+  unfolding linkageAt fieldAt choose pure sequence.mapped sequence.bind follow
   linkage-none e = rw e
 
   -- .. and from it on: no visibility, ..
@@ -65,13 +57,13 @@ module _ (c : VersionClass) (l : List ℕ) (i : ℕ) where
 
   -- .. no flag ..
   pub linkage-no-flag : since13·3 c ≡ true → (v j x k : ℕ) → byte l i ≡ got v j → varintAt l j ≡ stop x k → linkageAt c l i ≡ stop x k
-  unfolding linkageAt fieldAt choose sequence.map sequence.bind follow
+  unfolding linkageAt fieldAt choose sequence.mapped sequence.bind follow
   linkage-no-flag e v j x k a b = rw (e, a, b)
 
   -- .. or both.
   pub linkage-both : since13·3 c ≡ true → (v j f k : ℕ) → byte l i ≡ got v j → varintAt l j ≡ got f k →
       (t : ℕ) → t ≡ truth f → linkageAt c l i ≡ got (v, t) k
-  unfolding linkageAt fieldAt choose pure sequence.map sequence.bind follow
+  unfolding linkageAt fieldAt choose pure sequence.mapped sequence.bind follow
   linkage-both e v j f k a b t q = rw (e, a, b, q)
 
 -- What stands behind a global's first four numbers is its linkage.
@@ -79,18 +71,18 @@ module _ (c : VersionClass) (F : ℕ → ℕ → Global) (l : List ℕ) (i : ℕ
   abbrev There : Dec (since13·3 c ≡ true)
   There = Bool-discrete (since13·3 c) true
 
-  rest-flag : (v j : ℕ) (g : Got ℕ) → fieldAt There byte l i ≡ got v j → fieldAt There (sequence.map truth varintAt) l j ≡ g →
-      sequence.bind (fieldAt There byte) (λ v. sequence.map (λ f. F v f) (fieldAt There (sequence.map truth varintAt))) l i ≡
-      sequence.map (λ k. F (k .0) (k .1)) (linkageAt c) l i
-  unfolding linkageAt sequence.map sequence.bind follow pure
+  rest-flag : (v j : ℕ) (g : Got ℕ) → fieldAt There byte l i ≡ got v j → fieldAt There (sequence.mapped truth varintAt) l j ≡ g →
+      sequence.bind (fieldAt There byte) (λ v. sequence.mapped (λ f. F v f) (fieldAt There (sequence.mapped truth varintAt))) l i ≡
+      sequence.mapped (λ k. F (k .0) (k .1)) (linkageAt c) l i
+  unfolding linkageAt sequence.mapped sequence.bind follow pure
   rest-flag v j (got f k) a b = rw (a, b)
   rest-flag v j (stop x k) a b = rw (a, b)
 
   rest-byte : (g : Got ℕ) → fieldAt There byte l i ≡ g →
-      sequence.bind (fieldAt There byte) (λ v. sequence.map (λ f. F v f) (fieldAt There (sequence.map truth varintAt))) l i ≡
-      sequence.map (λ k. F (k .0) (k .1)) (linkageAt c) l i
-  unfolding linkageAt sequence.map sequence.bind follow pure
-  rest-byte (got v j) a = rest-flag v j (fieldAt There (sequence.map truth varintAt) l j) a refl
+      sequence.bind (fieldAt There byte) (λ v. sequence.mapped (λ f. F v f) (fieldAt There (sequence.mapped truth varintAt))) l i ≡
+      sequence.mapped (λ k. F (k .0) (k .1)) (linkageAt c) l i
+  unfolding linkageAt sequence.mapped sequence.bind follow pure
+  rest-byte (got v j) a = rest-flag v j (fieldAt There (sequence.mapped truth varintAt) l j) a refl
   rest-byte (stop x k) a = rw a
 
 -- One of the first four numbers is refused ..
@@ -122,20 +114,20 @@ globalWith n t k a x =
     record { name = n; type = t; constant = k; alignment = a; visibility = x .0; constantFlag = x .1 }
 
 pub global-last : (c : VersionClass) (l : List ℕ) (i n i1 t i2 k i3 a i4 : ℕ) → varintAt l i ≡ got n i1 → varintAt l i1 ≡ got t i2 →
-    varintAt l i2 ≡ got k i3 → varintAt l i3 ≡ got a i4 → globalAt c l i ≡ sequence.map (globalWith n t k a) (linkageAt c) l i4
+    varintAt l i2 ≡ got k i3 → varintAt l i3 ≡ got a i4 → globalAt c l i ≡ sequence.mapped (globalWith n t k a) (linkageAt c) l i4
 unfolding globalAt
 global-last c l i n i1 t i2 k i3 a i4 e1 e2 e3 e4 =
     bind-got varintAt _ l i n i1 (sym e1) ∙ bind-got varintAt _ l i1 t i2 (sym e2) ∙ bind-got varintAt _ l i2 k i3 (sym e3) ∙
     bind-got varintAt _ l i3 a i4 (sym e4) ∙ rest-byte c (λ v f. globalWith n t k a (v, f)) l i4 _ refl
 
 pub linked-got : (c : VersionClass) (F : ℕ × ℕ → Global) (l : List ℕ) (i : ℕ) (v : ℕ × ℕ) (j : ℕ) → linkageAt c l i ≡ got v j →
-    sequence.map F (linkageAt c) l i ≡ got (F v) j
-unfolding sequence.map pure
+    sequence.mapped F (linkageAt c) l i ≡ got (F v) j
+unfolding sequence.mapped pure
 linked-got c F l i v j e = bind-got (linkageAt c) _ l i v j (sym e)
 
 pub linked-stop : (c : VersionClass) (F : ℕ × ℕ → Global) (l : List ℕ) (i x k : ℕ) → linkageAt c l i ≡ stop x k →
-    sequence.map F (linkageAt c) l i ≡ stop x k
-unfolding sequence.map
+    sequence.mapped F (linkageAt c) l i ≡ stop x k
+unfolding sequence.mapped
 linked-stop c F l i x k e = bind-stop (linkageAt c) _ l i x k (sym e)
 
 -- A row takes bytes.
@@ -156,14 +148,14 @@ module _ (o n s f m : ℕ) (l : List ℕ) (i : ℕ) where
   pub body-got : (z j b k : ℕ) (x : List ℕ) → varintAt l i ≡ got z j → placed (raw z) l j ≡ got (b, x) k →
       bodyAt o n s f m l i ≡
       got (record { at = o + b; value = record { name = n; signature = s; flags = f; location = m; body = x } }) k
-  unfolding bodyAt place sequence.map pure
+  unfolding bodyAt place sequence.mapped pure
   body-got z j b k x e d =
       let (q, r) = placed-got (raw z) l j b x k d in
       bind-got varintAt _ l i z j (sym e) ∙ bind-got place _ l j j j refl ∙ bind-got (raw z) _ l j x k (sym r) ∙
       ap (λ a. got (record { at = o + a; value = record { name = n; signature = s; flags = f; location = m; body = x } }) k) (sym q)
 
   pub body-short : (z j x k : ℕ) → varintAt l i ≡ got z j → placed (raw z) l j ≡ stop x k → bodyAt o n s f m l i ≡ stop x k
-  unfolding bodyAt place sequence.map
+  unfolding bodyAt place sequence.mapped
   body-short z j x k e d =
       bind-got varintAt _ l i z j (sym e) ∙ bind-got place _ l j j j refl ∙ bind-stop (raw z) _ l j x k (sym (placed-stop (raw z) l j x k d))
 
@@ -348,12 +340,12 @@ globals-all c l n j at s s' p p' r e x =
     (fills-upto (λ vs. record { rows = length vs; words = join (map globalWords vs); runs = [] }) (length l) at s s' p p' r _ x)
 
 pub funcs-stop : (l : List ℕ) (x k : ℕ) → varintAt l 0 ≡ stop x k → functionRows (functionsAt 0 l 0) ≡ stop x k
-unfolding functionRows functionsAt upto counted sequence.bind sequence.map follow
+unfolding functionRows functionsAt upto counted sequence.bind sequence.mapped follow
 funcs-stop l x k e = rw e
 
 funcs-end : (l : List ℕ) (n j : ℕ) (g : Got (List (Located Function))) → varintAt l 0 ≡ got n j → times n (functionAt 0) l j ≡ g →
     functionRows (functionsAt 0 l 0) ≡ follow g (λ vs k. got (bodied (apart vs .values)) (length l))
-unfolding functionRows functionsAt upto counted sequence.bind sequence.map pure follow
+unfolding functionRows functionsAt upto counted sequence.bind sequence.mapped pure follow
 funcs-end l n j (got vs k) e t = rw (e, t)
 funcs-end l n j (stop x k) e t = rw (e, t)
 

@@ -1,18 +1,17 @@
 -- Rows of type entries: the presence below 13.3, the choice by tag, and the count before a row. Assumes nothing.
 use mathlib.Core.Path.{_≡_, refl, sym, ap, _∙_, subst}
-use Prim.Native.Nat.{ℕ, zero, suc, _+_, _-_, _*_, _^_, _≤_, _<_}
-use native.Mathlib.Nat.{add-zero, not-suc-le-zero}
+use Prim.Native.Nat.{ℕ, _+_, _-_, _*_, _^_, _≤_, _<_}
+use native.Mathlib.Nat.{add-zero}
 use borrow.Author.Tests.{ne-eqb}
 use native.Mathlib.Decide.{ℕ-discrete}
 use native.Mathlib.Omega.{arith}
-use mathlib.Core.Bool.{Bool, true, false, cond, _||_, Bool-discrete}
+use mathlib.Core.Bool.{Bool, true, false, Bool-discrete, false≢true}
 use mathlib.Core.List.{List, [], _∷_, _++_}
 use lib.ListN.{length, length-append}
 use Rattle.exact.specs.Got.{Got, got, stop, follow}
 use Rattle.exact.specs.Exact.{Parser}
 use Rattle.exact.specs.Basic.{byte, pure}
-use Rattle.exact.specs.Sequence.{bind, map}
-use Rattle.exact.specs.Choice.{choose}
+use Rattle.exact.specs.Sequence.{bind, mapped}
 use Rattle.exact.specs.Padding.{here}
 use Rattle.exact.specs.Refuse.{pickAt, refuse}
 use Rattle.exact.specs.Upto.{upto}
@@ -23,7 +22,7 @@ use Rattle.exact.specs.Kinds.{Case}
 use Rattle.enums.specs.Refusals as refusals
 use Rattle.enums.specs.Types as tags
 use Rattle.enums.specs.declared.VersionClass.{VersionClass}
-use Rattle.enums.specs.declared.VersionClass.the-variants.{Below13_3, From13_3, From13_4}
+use Rattle.enums.specs.Version.{since13·3}
 use Rattle.reading.specs.Numbers.{varintAt}
 use Rattle.reading.specs.declared.Refused.{Refused}
 use Rattle.format.specs.Tables.{TypeRow, plain}
@@ -50,27 +49,18 @@ use Rattle.payloads.specs.declared.fields.Number.the-variants.{Byte}
 use Rattle.payloads.specs.declared.fields.Spot.{Spot}
 use Rattle.payloads.specs.declared.fields.SpotRead.{SpotRead}
 use Rattle.payloads.specs.declared.fields.SpotRead.the-variants as spot
-use Rattle.payloads.specs.Fields.{numberAt, one, none, valueOf, Put, Copied, Within, Grows}
+use Rattle.payloads.specs.Fields.{numberAt, asWord, unput, valueOf, Put, Copied, Within, Grows}
 use Rattle.payloads.specs.TypeRows.{partitionAt, placeOf, Row, Spare, Short}
 use Rattle.payloads.proofs.LawsWords.{word-before}
 use Rattle.payloads.proofs.LawsFields.{number-in}
 use Rattle.payloads.proofs.LawsTypes.{Via, oldEnd, oldSteps, old-says}
 
--- The presence byte: nonzero means 1.
-pub truth-zero : (b : ℕ) → b ≡ 0 → 0 ≡ truth b
-unfolding truth
-truth-zero b h = sym (choose-yes (ℕ-discrete b 0) 0 1 h)
-
-pub truth-one : (b : ℕ) → ¬ (b ≡ 0) → 1 ≡ truth b
-unfolding truth
-truth-one b h = sym (choose-no (ℕ-discrete b 0) 0 1 h)
-
 module _ (l : List ℕ) {from : SpotRead} (at : Spot) (e : from ≡ spot.Got at) where
   pub presence-got : (b j v : ℕ) → byte l (at .pos) ≡ got b j → v ≡ truth b → (s : List ℕ) →
-      Copied (none (map truth byte)) l from s s (spot.Got record { pos = j; word = at .word; value = v })
-  unfolding Copied Put none map bind follow pure putWords
+      Copied (unput (mapped truth byte)) l from s s (spot.Got record { pos = j; word = at .word; value = v })
+  unfolding Copied Put unput mapped bind follow pure putWords
   presence-got b j v g h s =
-      subst (λ f. Copied (none (map truth byte)) l f s s (spot.Got record { pos = j; word = at .word; value = v })) (sym e)
+      subst (λ f. Copied (unput (mapped truth byte)) l f s s (spot.Got record { pos = j; word = at .word; value = v })) (sym e)
       (rw g (
         ap (λ v. spot.Got record { pos = j; word = at .word; value = v }) h ∙
             ap (λ w. spot.Got record { pos = j; word = w; value = truth b }) (sym (add-zero (at .word))),
@@ -78,9 +68,9 @@ module _ (l : List ℕ) {from : SpotRead} (at : Spot) (e : from ≡ spot.Got at)
       ))
 
   pub presence-stop : (x : Refused) → byte l (at .pos) ≡ stop (x .no) (x .at) → (s : List ℕ) →
-      Copied (none (map truth byte)) l from s s (spot.Stop x)
-  unfolding Copied Put none map bind follow pure
-  presence-stop x g s = subst (λ f. Copied (none (map truth byte)) l f s s (spot.Stop x)) (sym e) (rw g refl)
+      Copied (unput (mapped truth byte)) l from s s (spot.Stop x)
+  unfolding Copied Put unput mapped bind follow pure
+  presence-stop x g s = subst (λ f. Copied (unput (mapped truth byte)) l f s s (spot.Stop x)) (sym e) (rw g refl)
 
   pub grows-presence : (b j v : ℕ) → byte l (at .pos) ≡ got b j →
       Grows l from (spot.Got record { pos = j; word = at .word; value = v })
@@ -101,14 +91,14 @@ module _ (l s s' : List ℕ) (i w v : ℕ) (ws : List ℕ) (j : ℕ) (r : SpotRe
       word-before ws (putWord s (w + 1) v) w (w + 2) tags.tagPartitionView (omega arith) ∙
       ap (λ t. putWords t (w + 2) ws) (word-before (v ∷ []) s w (w + 1) tags.tagPartitionView (omega arith)) ∙ rw n
 
-  old-model : (g : Got (List ℕ)) → oldEnd (v, ws) l j ≡ g → map fieldWords oldPartitionViewAt l i ≡ g
+  old-model : (g : Got (List ℕ)) → oldEnd (v, ws) l j ≡ g → mapped fieldWords oldPartitionViewAt l i ≡ g
   unfolding Via bind follow
   old-model g h = old-says l i ∙ rw e h
 
   old-end : (a : Got ℕ) → fieldAt (ℕ-discrete v 1) varintAt l j ≡ a →
-      Put (one (fieldAt (ℕ-discrete v 1) varintAt) l j) (w + 2 + length ws) (putWords s w (tags.tagPartitionView ∷ v ∷ ws)) s' r →
-      Row (map fieldWords oldPartitionViewAt l i) w s s' r
-  unfolding one map bind follow pure Put Row placeOf oldEnd
+      Put (asWord (fieldAt (ℕ-discrete v 1) varintAt) l j) (w + 2 + length ws) (putWords s w (tags.tagPartitionView ∷ v ∷ ws)) s' r →
+      Row (mapped fieldWords oldPartitionViewAt l i) w s s' r
+  unfolding asWord mapped bind follow pure Put Row placeOf oldEnd
   old-end (got u k) f x =
       let m = old-model (got (tags.tagPartitionView ∷ v ∷ (ws ++ (u ∷ []))) k) (rw f refl) in
       let (y, z) = rw f at x in
@@ -126,28 +116,28 @@ module _ (l s s' : List ℕ) (i w v : ℕ) (ws : List ℕ) (j : ℕ) (r : SpotRe
 
 module _ (l s s₁ s₂ s' : List ℕ) (i w : ℕ) (r₁ r : SpotRead) (u : ℕ) (value : u ≡ valueOf r₁)
     (puts : s₂ ≡ putWord (putWord s₁ (w + 1) u) w tags.tagPartitionView)
-    (last : Copied (one (fieldAt (ℕ-discrete u 1) varintAt)) l r₁ s₂ s' r) where
-  old-any : (g : Got (ℕ × List ℕ)) → oldSteps l i ≡ g → Put g (w + 2) s s₁ r₁ → Row (map fieldWords oldPartitionViewAt l i) w s s' r
+    (last : Copied (asWord (fieldAt (ℕ-discrete u 1) varintAt)) l r₁ s₂ s' r) where
+  old-any : (g : Got (ℕ × List ℕ)) → oldSteps l i ≡ g → Put g (w + 2) s s₁ r₁ → Row (mapped fieldWords oldPartitionViewAt l i) w s s' r
   unfolding Put Copied valueOf Row placeOf Via bind follow
   old-any (got a j) e (x, y) =
       let q : u ≡ a .0 = value ∙ ap valueOf x in
       let p : s₂ ≡ putWords s w (tags.tagPartitionView ∷ a .0 ∷ a .1) =
       puts ∙ rw (q, y) (old-words l s s' i w (a .0) (a .1) j r e) in
-      let z : Copied (one (fieldAt (ℕ-discrete (a .0) 1) varintAt)) l
+      let z : Copied (asWord (fieldAt (ℕ-discrete (a .0) 1) varintAt)) l
       (spot.Got record { pos = j; word = w + 2 + length (a .1); value = a .0 })
       (putWords s w (tags.tagPartitionView ∷ a .0 ∷ a .1)) s' r =
-      subst (λ t. Copied (one (fieldAt (ℕ-discrete (a .0) 1) varintAt)) l t (putWords s w (tags.tagPartitionView ∷ a .0 ∷ a .1)) s' r) x
-      (subst (λ t. Copied (one (fieldAt (ℕ-discrete (a .0) 1) varintAt)) l r₁ t s' r) p
-      (subst (λ n. Copied (one (fieldAt (ℕ-discrete n 1) varintAt)) l r₁ s₂ s' r) q last)) in
+      subst (λ t. Copied (asWord (fieldAt (ℕ-discrete (a .0) 1) varintAt)) l t (putWords s w (tags.tagPartitionView ∷ a .0 ∷ a .1)) s' r) x
+      (subst (λ t. Copied (asWord (fieldAt (ℕ-discrete (a .0) 1) varintAt)) l r₁ t s' r) p
+      (subst (λ n. Copied (asWord (fieldAt (ℕ-discrete n 1) varintAt)) l r₁ s₂ s' r) q last)) in
       old-end l s s' i w (a .0) (a .1) j r e (fieldAt (ℕ-discrete (a .0) 1) varintAt l j) refl z
   old-any (stop c k) e x =
       let z : r ≡ spot.Stop record { no = c; at = k } =
-      subst (λ t. Copied (one (fieldAt (ℕ-discrete u 1) varintAt)) l t s₂ s' r) x last in
-      let m : map fieldWords oldPartitionViewAt l i ≡ stop c k = old-says l i ∙ rw e in
+      subst (λ t. Copied (asWord (fieldAt (ℕ-discrete u 1) varintAt)) l t s₂ s' r) x last in
+      let m : mapped fieldWords oldPartitionViewAt l i ≡ stop c k = old-says l i ∙ rw e in
       rw m (ap placeOf z)
 
   pub old-row : Copied oldSteps l (spot.Got record { pos = i; word = w + 2; value = 0 }) s s₁ r₁ →
-      Row (map fieldWords oldPartitionViewAt l i) w s s' r
+      Row (mapped fieldWords oldPartitionViewAt l i) w s s' r
   unfolding Copied
   old-row x = old-any (oldSteps l i) refl x
 
@@ -161,22 +151,16 @@ unfolding Spare
 spare-word l at h = omega (arith, h .1)
 
 -- A row by a parser that is the same.
-pub row-as : (P Q : Parser TypeRow) (l : List ℕ) (i w : ℕ) (s s' : List ℕ) (r : SpotRead) → P ≡ Q → Row (map fieldWords P l i) w s s' r →
-    Row (map fieldWords Q l i) w s s' r
-row-as P Q l i w s s' r e x = subst (λ P. Row (map fieldWords P l i) w s s' r) e x
+pub row-as : (P Q : Parser TypeRow) (l : List ℕ) (i w : ℕ) (s s' : List ℕ) (r : SpotRead) → P ≡ Q → Row (mapped fieldWords P l i) w s s' r →
+    Row (mapped fieldWords Q l i) w s s' r
+row-as P Q l i w s s' r e x = subst (λ P. Row (mapped fieldWords P l i) w s s' r) e x
 
 -- Partition views by class.
-pub below : {c : VersionClass} → c ≡ Below13_3 → oldPartitionViewAt ≡ partitionAt c
-unfolding choose
-below e = rw e
+pub partition-since : (c : VersionClass) {b : Bool} → b ≡ since13·3 c → b ≡ true → partitionViewAt ≡ partitionAt c
+partition-since c e h = sym (choose-yes (Bool-discrete (since13·3 c) true) _ _ (sym e ∙ h))
 
-pub since-3 : {c : VersionClass} → c ≡ From13_3 → partitionViewAt ≡ partitionAt c
-unfolding choose
-since-3 e = rw e
-
-pub since-4 : {c : VersionClass} → c ≡ From13_4 → partitionViewAt ≡ partitionAt c
-unfolding choose
-since-4 e = rw e
+pub partition-below : (c : VersionClass) {b : Bool} → b ≡ since13·3 c → b ≡ false → oldPartitionViewAt ≡ partitionAt c
+partition-below c e h = sym (choose-no (Bool-discrete (since13·3 c) true) _ _ (λ k. false≢true (sym h ∙ e ∙ k)))
 
 -- Behind the first two.
 abbrev tail2 : {A : Type 1} → List A → List A
@@ -312,67 +296,40 @@ unknown-plain t h n =
       ),
     )
 
--- Every tag below n passes the test.
-abbrev upTo : ℕ → (ℕ → Bool) → Bool
-upTo zero f = true
-upTo (suc n) f = cond (f n) (upTo n f) false
-
-up-to : (n : ℕ) (f : ℕ → Bool) → upTo n f ≡ true → (t : ℕ) → t < n → f t ≡ true
-up-to zero f e t h = absurd (not-suc-le-zero h)
-up-to (suc n) f e t h = elim (ℕ-discrete t n) [ yes q ↦ rw q (first (f n) (upTo n f) e) | no q ↦ up-to n f (second (f n) (upTo n f) e) t (omega arith) ]
-  where
-    first : (a b : Bool) → cond a b false ≡ true → a ≡ true
-    first true b e = refl
-    first false b e = e
-
-    second : (a b : Bool) → cond a b false ≡ true → b ≡ true
-    second true b e = e
-    second false b e = absurd (false-true e)
-
-either : (a b : Bool) → a || b ≡ true → a ≡ false → b ≡ true
-either true b e h = absurd (false-true (sym h))
-either false b e h = e
-
-pub plain-low : (t : ℕ) → t < 20 → ¬ (t ≡ 12) → ¬ (t ≡ 13) → ¬ (t ≡ 14) → ¬ (t ≡ 15) → ¬ (t ≡ 16) → among t plainTags ≡ true
-plain-low t h a b c d e =
-    either (among t (12 ∷ 13 ∷ 14 ∷ 15 ∷ 16 ∷ [])) (among t plainTags)
-    (up-to 20 (λ t. among t (12 ∷ 13 ∷ 14 ∷ 15 ∷ 16 ∷ []) || among t plainTags) refl t h)
-    (among-none t (12 ∷ 13 ∷ 14 ∷ 15 ∷ 16 ∷ []) (a, (b, (c, (d, (e, tt))))))
-
 module _ (c : VersionClass) (t : ℕ) (l s s' : List ℕ) (at : Spot) where
   -- A tag without fields is a row of itself ..
   pub plain-row : (u : Spot) → among t plainTags ≡ true → u ≡ record { pos = at .pos; word = at .word + 1; value = t } →
-      s' ≡ putWord s (at .word) t → Row (map fieldWords (fieldsAt c 0 t) l (at .pos)) (at .word) s s' (spot.Got u)
-  unfolding map bind follow pure fieldWords Row placeOf putWords
+      s' ≡ putWord s (at .word) t → Row (mapped fieldWords (fieldsAt c 0 t) l (at .pos)) (at .word) s s' (spot.Got u)
+  unfolding mapped bind follow pure fieldWords Row placeOf putWords
   plain-row u h e p = rw (fields-plain c t h) (ap (λ u. got (u .word) (u .pos)) e, p)
 
   -- .. and one that is not known is refused.
   pub unknown-row : 22 < t → ¬ (t ≡ 130) →
-      Row (map fieldWords (fieldsAt c 0 t) l (at .pos)) (at .word) s s' (spot.Stop record { no = refusals.typeTag; at = 0 })
-  unfolding map bind follow refuse Row placeOf
+      Row (mapped fieldWords (fieldsAt c 0 t) l (at .pos)) (at .word) s s' (spot.Stop record { no = refusals.typeTag; at = 0 })
+  unfolding mapped bind follow refuse Row placeOf
   unknown-row h n = rw (unknown-fields c t h (unknown-plain t h n)) refl
 
 -- The count of a row is put before its words.
 module _ (c : VersionClass) (l : List ℕ) (w : ℕ) (s s₁ s' : List ℕ) where
-  pub entry-stop : (x : Refused) → varintAt l 0 ≡ stop (x .no) (x .at) → Row (map typeWords (typeEntryAt c) l 0) w s s' (spot.Stop x)
-  unfolding typeEntryAt upto here map bind follow Row placeOf
+  pub entry-stop : (x : Refused) → varintAt l 0 ≡ stop (x .no) (x .at) → Row (mapped typeWords (typeEntryAt c) l 0) w s s' (spot.Stop x)
+  unfolding typeEntryAt upto here mapped bind follow Row placeOf
   entry-stop x e = rw e refl
 
   module _ (t j : ℕ) (e : varintAt l 0 ≡ got t j) where
-    refused-any : (x : Refused) (g : Got TypeRow) → fieldsAt c 0 t l j ≡ g → Row (map fieldWords (fieldsAt c 0 t) l j) (w + 1) s s₁ (spot.Stop x) →
-        Row (map typeWords (typeEntryAt c) l 0) w s s' (spot.Stop x)
-    unfolding typeEntryAt upto here map bind follow pure Row placeOf
+    refused-any : (x : Refused) (g : Got TypeRow) → fieldsAt c 0 t l j ≡ g → Row (mapped fieldWords (fieldsAt c 0 t) l j) (w + 1) s s₁ (spot.Stop x) →
+        Row (mapped typeWords (typeEntryAt c) l 0) w s s' (spot.Stop x)
+    unfolding typeEntryAt upto here mapped bind follow pure Row placeOf
     refused-any x (got v k) f h = let y = rw f at h in let n : _≡_ {A = ℕ} 0 1 = cc (y .0) in let z : ⊥ = omega arith in absurd z
     refused-any x (stop d k) f h = let y = rw f at h in rw (e, f) y
 
-    pub entry-refused : (x : Refused) → Row (map fieldWords (fieldsAt c 0 t) l j) (w + 1) s s₁ (spot.Stop x) →
-        Row (map typeWords (typeEntryAt c) l 0) w s s' (spot.Stop x)
+    pub entry-refused : (x : Refused) → Row (mapped fieldWords (fieldsAt c 0 t) l j) (w + 1) s s₁ (spot.Stop x) →
+        Row (mapped typeWords (typeEntryAt c) l 0) w s s' (spot.Stop x)
     entry-refused x h = refused-any x (fieldsAt c 0 t l j) refl h
 
     entry-any : (d : Spot) (u : ℕ) (g : Got TypeRow) → fieldsAt c 0 t l j ≡ g → s' ≡ putWord s₁ w (d .word - (w + 1)) →
-        Row (map fieldWords (fieldsAt c 0 t) l j) (w + 1) s s₁ (spot.Got d) →
-        Row (map typeWords (typeEntryAt c) l 0) w s s' (spot.Got record { pos = length l; word = d .word; value = u })
-    unfolding typeEntryAt upto here map bind follow pure Row placeOf typeWords putWords
+        Row (mapped fieldWords (fieldsAt c 0 t) l j) (w + 1) s s₁ (spot.Got d) →
+        Row (mapped typeWords (typeEntryAt c) l 0) w s s' (spot.Got record { pos = length l; word = d .word; value = u })
+    unfolding typeEntryAt upto here mapped bind follow pure Row placeOf typeWords putWords
     entry-any d u (got v k) f p h =
         let (y, z) = rw f at h in
         let q : d .word ≡ w + 1 + length (fieldWords v) = got-value y in
@@ -385,8 +342,8 @@ module _ (c : VersionClass) (l : List ℕ) (w : ℕ) (s s₁ s' : List ℕ) wher
     entry-any d u (stop b k) f p h = let y = rw f at h in let n : _≡_ {A = ℕ} 0 1 = cc y in let z : ⊥ = omega arith in absurd z
 
     pub entry-got : (d : Spot) (u : ℕ) → s' ≡ putWord s₁ w (d .word - (w + 1)) →
-        Row (map fieldWords (fieldsAt c 0 t) l j) (w + 1) s s₁ (spot.Got d) →
-        Row (map typeWords (typeEntryAt c) l 0) w s s' (spot.Got record { pos = length l; word = d .word; value = u })
+        Row (mapped fieldWords (fieldsAt c 0 t) l j) (w + 1) s s₁ (spot.Got d) →
+        Row (mapped typeWords (typeEntryAt c) l 0) w s s' (spot.Got record { pos = length l; word = d .word; value = u })
     entry-got d u p h = entry-any d u (fieldsAt c 0 t l j) refl p h
 
 -- A row's words stand from w on.

@@ -9,7 +9,7 @@ use native.Mathlib.Omega.{arith}
 use mathlib.Core.Option.{none, some}
 use mathlib.Core.List.{List, [], _∷_, _++_, map}
 use lib.ListN.{length, take, drop, getD, length-drop, length-append, drop-of-length-le}
-use lib.Seq.{drop-drop, drop-cons, length-take-le}
+use lib.Seq.{drop-drop, drop-cons, length-take-le, take-nil}
 use Rattle.exact.specs.Got.{Got, got, stop, follow}
 use Rattle.exact.specs.Basic.{pure}
 use Rattle.exact.specs.Sequence.{bind}
@@ -20,6 +20,7 @@ use Rattle.exact.specs.Entries.{raised, cutLeast, entry, entriesOf}
 use Rattle.exact.proofs.LawsExact.{stop-not-got, got-value}
 use Rattle.exact.proofs.LawsChoice.{choose-yes, choose-no}
 use Rattle.exact.proofs.LawsSteps.{fixed-at, nums-at}
+use Rattle.exact.proofs.LawsFixed.{length-nums}
 use Rattle.enums.specs.Refusals as refusals
 use Rattle.enums.specs.declared.VersionClass.{VersionClass}
 use Rattle.reading.specs.declared.Refused.{Refused}
@@ -34,10 +35,6 @@ use Rattle.payloads.specs.declared.fields.SpotRead.the-variants as spot
 use Rattle.payloads.specs.TypeRows.{placeOf, Row, Short, rowWords, rowsWords, entryIn, startOf, entriesFrom, Inside}
 
 -- What a part of a list has from s up to e.
-take-nil : (n : ℕ) → take {A = ℕ} n [] ≡ []
-take-nil zero = refl
-take-nil (suc n) = refl
-
 drop-take : (s e : ℕ) (l : List ℕ) → drop s (take e l) ≡ take (e - s) (drop s l)
 drop-take zero e l = let n : e ≡ e - 0 = omega arith in ap (λ n. take n l) n
 drop-take (suc s) zero l = let n : 0 - suc s ≡ 0 = omega arith in rw n refl
@@ -72,28 +69,28 @@ module _ (c : VersionClass) (l : List ℕ) (b start end w : ℕ) (s s' : List �
   bounds-row e = rw e refl
 
   module _ (x : List ℕ) (e : cutLeast 0 start end (drop b l) ≡ some x) where
-    part-stop : (z : Refused) (g : Got TypeRow) → typeEntryAt c x 0 ≡ g → Row (sequence.map typeWords (typeEntryAt c) x 0) w s s' (spot.Stop z) →
+    part-stop : (z : Refused) (g : Got TypeRow) → typeEntryAt c x 0 ≡ g → Row (sequence.mapped typeWords (typeEntryAt c) x 0) w s s' (spot.Stop z) →
         Row (rowWords (entryIn c b start end l)) w s s' (spot.Stop record { no = z .no; at = b + start + z .at })
-    unfolding sequence.map bind follow pure rowWords entryIn entry raised Row placeOf
+    unfolding sequence.mapped bind follow pure rowWords entryIn entry raised Row placeOf
     part-stop z (got v j) f h = let y = rw f at h in absurd (stop-not-got (y .0))
     part-stop z (stop d k) f h =
         let y : _≡_ {A = Got ℕ} (stop (z .no) (z .at)) (stop d k) = rw f at h in
         rw (e, f) (cc)
 
-    part-got : (t : Spot) (g : Got TypeRow) → typeEntryAt c x 0 ≡ g → Row (sequence.map typeWords (typeEntryAt c) x 0) w s s' (spot.Got t) →
+    part-got : (t : Spot) (g : Got TypeRow) → typeEntryAt c x 0 ≡ g → Row (sequence.mapped typeWords (typeEntryAt c) x 0) w s s' (spot.Got t) →
         Row (rowWords (entryIn c b start end l)) w s s' (spot.Got record { pos = b + start + t .pos; word = t .word; value = t .value })
-    unfolding sequence.map bind follow pure rowWords entryIn entry raised Row placeOf
+    unfolding sequence.mapped bind follow pure rowWords entryIn entry raised Row placeOf
     part-got t (got v j) f h =
         let y = rw f at h in
         let q : _≡_ {A = Got ℕ} (got (t .word) (t .pos)) (got (w + length (typeWords v)) j) = y .0 in
         rw (e, f) ((cc), y .1)
     part-got t (stop d k) f h = let y = rw f at h in absurd (stop-not-got (sym y))
 
-    pub entry-stopped : (z : Refused) → Row (sequence.map typeWords (typeEntryAt c) x 0) w s s' (spot.Stop z) →
+    pub entry-stopped : (z : Refused) → Row (sequence.mapped typeWords (typeEntryAt c) x 0) w s s' (spot.Stop z) →
         Row (rowWords (entryIn c b start end l)) w s s' (spot.Stop record { no = z .no; at = b + start + z .at })
     entry-stopped z h = part-stop z (typeEntryAt c x 0) refl h
 
-    pub entry-read : (t : Spot) → Row (sequence.map typeWords (typeEntryAt c) x 0) w s s' (spot.Got t) →
+    pub entry-read : (t : Spot) → Row (sequence.mapped typeWords (typeEntryAt c) x 0) w s s' (spot.Got t) →
         Row (rowWords (entryIn c b start end l)) w s s' (spot.Got record { pos = b + start + t .pos; word = t .word; value = t .value })
     entry-read t h = part-got t (typeEntryAt c x 0) refl h
 
@@ -133,11 +130,6 @@ unfolding Inside
 inside-at start end w n t h = h
 
 -- Starts.
-pub length-nums : (n w : ℕ) (s : List ℕ) → length (nums n w s) ≡ n
-unfolding nums
-length-nums zero w s = refl
-length-nums (suc n) w s = ap suc (length-nums n w (drop w s))
-
 module _ (starts count i : ℕ) (l : List ℕ) where
   abbrev all : List ℕ
   all = nums count 4 (drop starts l)

@@ -1,6 +1,6 @@
 -- The Type section as a table of rows. Assumes nothing.
 use mathlib.Core.Path.{_≡_, refl, sym, ap, _∙_, subst}
-use Prim.Native.Nat.{ℕ, zero, suc, _+_, _-_, _*_, _/_, _^_, _≤_, _<_}
+use Prim.Native.Nat.{ℕ, suc, _+_, _-_, _*_, _/_, _≤_, _<_}
 use native.Mathlib.Nat.{add-zero, div-mul-le-self, lt-div-mul-add, mul-le-mul-right}
 use native.Mathlib.Decide.{ℕ-discrete}
 use native.Mathlib.Omega.{arith}
@@ -12,7 +12,7 @@ use Rattle.exact.specs.Basic.{pure}
 use Rattle.exact.specs.Sequence.{bind}
 use Rattle.exact.specs.Sequence as sequence
 use Rattle.exact.specs.Repeat.{times}
-use Rattle.exact.specs.Fixed.{fixed, nums}
+use Rattle.exact.specs.Fixed.{fixed}
 use Rattle.exact.specs.Tiling.{join, endOf}
 use Rattle.exact.specs.Upto.{upto}
 use Rattle.exact.specs.Entries.{entriesOf, entries, rows, cutLeast, entry}
@@ -20,6 +20,7 @@ use Rattle.exact.proofs.LawsExact.{stop-not-got, got-value}
 use Rattle.exact.proofs.LawsSequence.{follow-inv}
 use Rattle.exact.proofs.LawsChoice.{choose-yes, choose-no}
 use Rattle.exact.proofs.LawsSteps.{times-at, times-end}
+use Rattle.exact.proofs.LawsFixed.{length-nums}
 use Rattle.enums.specs.Refusals as refusals
 use Rattle.enums.specs.declared.VersionClass.{VersionClass}
 use Rattle.reading.specs.Numbers.{varintAt, paddingAt}
@@ -37,7 +38,6 @@ use Rattle.payloads.specs.declared.fields.Spot.{Spot}
 use Rattle.payloads.specs.declared.fields.SpotRead.the-variants as spot
 use Rattle.payloads.specs.Fill.{Fills}
 use Rattle.payloads.specs.TypeRows.{placeOf, Row, rowsWords, entriesFrom, typeRows, startsAndEntries}
-use Rattle.payloads.proofs.LawsTypeSection.{length-nums}
 
 -- As many rows as starts.
 entries-length : (c m : ℕ) (p : Parser TypeRow) (ss : List ℕ) (b n : ℕ) (d : List ℕ) (vs : List TypeRow) (k : ℕ) →
@@ -72,26 +72,26 @@ module _ (c : VersionClass) (n : ℕ) (l : List ℕ) (i left : ℕ) (rest : left
 -- What the section is, by its count and padding.
 module _ (c : VersionClass) (l : List ℕ) where
   pub types-stop : (x : Refused) → varintAt l 0 ≡ stop (x .no) (x .at) → typesAt c 0 l 0 ≡ stop (x .no) (x .at)
-  unfolding typesAt offsetTableAt sequence.map bind follow
+  unfolding typesAt offsetTableAt sequence.mapped bind follow
   types-stop x e = rw e
 
   pub types-none : (n j : ℕ) → varintAt l 0 ≡ got n j → n ≡ 0 → typesAt c 0 l 0 ≡ got [] (length l)
-  unfolding typesAt offsetTableAt sequence.map bind follow upto pure
+  unfolding typesAt offsetTableAt sequence.mapped bind follow upto pure
   types-none n j e h = rw (e, choose-yes (ℕ-discrete n 0) _ _ h)
 
   module _ (n j : ℕ) (e : varintAt l 0 ≡ got n j) (some : ¬ (n ≡ 0)) where
     pub types-padding : (x : Refused) → paddingAt 4 l j ≡ stop (x .no) (x .at) → typesAt c 0 l 0 ≡ stop (x .no) (x .at)
-    unfolding typesAt offsetTableAt sequence.map bind follow entries paddingAt
+    unfolding typesAt offsetTableAt sequence.mapped bind follow entries paddingAt
     types-padding x f = rw (e, choose-no (ℕ-discrete n 0) _ _ some, f)
 
     types-data : (k : ℕ) (ss : List ℕ) (m : ℕ) (g : Got (List TypeRow)) → paddingAt 4 l j ≡ got tt k → times n (fixed 4) l k ≡ got ss m →
         entriesOf refusals.bounds 0 (typeEntryAt c) ss m (length l) (drop m l) ≡ g → typesAt c 0 l 0 ≡ startsAndEntries c n l k
-    unfolding typesAt offsetTableAt sequence.map bind follow pure entries rows paddingAt startsAndEntries
+    unfolding typesAt offsetTableAt sequence.mapped bind follow pure entries rows paddingAt startsAndEntries
     types-data k ss m (got vs d) f t h = rw (e, choose-no (ℕ-discrete n 0) _ _ some, f, t, h)
     types-data k ss m (stop b d) f t h = rw (e, choose-no (ℕ-discrete n 0) _ _ some, f, t, h)
 
     types-starts : (k : ℕ) (g : Got (List ℕ)) → paddingAt 4 l j ≡ got tt k → times n (fixed 4) l k ≡ g → typesAt c 0 l 0 ≡ startsAndEntries c n l k
-    unfolding typesAt offsetTableAt sequence.map bind follow entries paddingAt startsAndEntries
+    unfolding typesAt offsetTableAt sequence.mapped bind follow entries paddingAt startsAndEntries
     types-starts k (got ss m) f t = types-data k ss m (entriesOf refusals.bounds 0 (typeEntryAt c) ss m (length l) (drop m l)) f t refl
     types-starts k (stop b d) f t = rw (e, choose-no (ℕ-discrete n 0) _ _ some, f, t)
 

@@ -8,7 +8,7 @@ use lib.ListN.{length}
 use Rattle.exact.specs.Got.{Got, got, stop}
 use Rattle.exact.specs.Exact.{Parser}
 use Rattle.exact.specs.Basic.{byte}
-use Rattle.exact.specs.Sequence.{map}
+use Rattle.exact.specs.Sequence.{mapped}
 use Rattle.exact.specs.Repeat.{times, counted}
 use Rattle.exact.specs.Fixed.{fixed}
 use Rattle.reading.specs.Numbers.{varintAt}
@@ -32,20 +32,20 @@ unfoldable pub fieldIf : Bool → Parser ℕ → Parser ℕ
 fieldIf there p = fieldAt (Bool-discrete there true) p
 
 -- One number is one word; it is the value to go on with.
-unfoldable pub one : Parser ℕ → Parser (ℕ × List ℕ)
-one p = map (λ v. (v, v ∷ [])) p
+unfoldable pub asWord : Parser ℕ → Parser (ℕ × List ℕ)
+asWord p = mapped (λ v. (v, v ∷ [])) p
 
 -- A number that is read and not put.
-unfoldable pub none : Parser ℕ → Parser (ℕ × List ℕ)
-none p = map (λ v. (v, [])) p
+unfoldable pub unput : Parser ℕ → Parser (ℕ × List ℕ)
+unput p = mapped (λ v. (v, [])) p
 
 -- A counted list is its count and a word for each number; the count is the value to go on with.
 unfoldable pub listed : Number → Parser (ℕ × List ℕ)
-listed k = map (λ vs. (length vs, countedWords vs)) (counted varintAt (numberAt k))
+listed k = mapped (λ vs. (length vs, countedWords vs)) (counted varintAt (numberAt k))
 
 -- n numbers, and m to go on with.
 unfoldable pub numbers : ℕ → ℕ → Number → Parser (ℕ × List ℕ)
-numbers m n k = map (λ vs. (m, vs)) (times n (numberAt k))
+numbers m n k = mapped (λ vs. (m, vs)) (times n (numberAt k))
 
 -- The value to go on with.
 unfoldable pub valueOf : SpotRead → ℕ

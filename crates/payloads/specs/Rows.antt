@@ -13,9 +13,10 @@ use Rattle.exact.specs.Repeat.{times}
 use Rattle.exact.specs.Tiling.{join}
 use Rattle.exact.specs.Entries as table
 use Rattle.enums.specs.declared.VersionClass.{VersionClass}
+use Rattle.enums.specs.Version.{since13·3}
 use Rattle.reading.specs.Numbers.{varintAt}
 use Rattle.format.specs.Tables.{Global, Function}
-use Rattle.format.specs.Items.{truth, since13·3}
+use Rattle.format.specs.Items.{truth}
 use Rattle.format.specs.Functions.{Located, apart}
 use Rattle.format.specs.DecodeTables.{fieldAt}
 use Rattle.format.specs.DecodeRows.{functionAt, functionsAt}
@@ -39,7 +40,7 @@ use Rattle.payloads.specs.declared.rows.FuncRead.the-variants as func
 unfoldable pub linkageAt : VersionClass → Parser (ℕ × ℕ)
 linkageAt c =
     sequence.bind (fieldAt (Bool-discrete (since13·3 c) true) byte)
-    (λ v. sequence.map (λ f. (v, f)) (fieldAt (Bool-discrete (since13·3 c) true) (sequence.map truth varintAt)))
+    (λ v. sequence.mapped (λ f. (v, f)) (fieldAt (Bool-discrete (since13·3 c) true) (sequence.mapped truth varintAt)))
 
 abbrev pub gotLinkage : LinkageRead → Got (ℕ × ℕ)
 gotLinkage (linkage.Got k r) = got (k .visibility, k .constant) (r .pos)

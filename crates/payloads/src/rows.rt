@@ -4,7 +4,6 @@ ghost use mathlib.Core.Path.{_≡_};
 ghost use Prim.Native.Nat.{_+_, _^_, _≤_, _<_};
 ghost use lib.ListN.{length};
 ghost use Rattle.exact.specs.Repeat.{times};
-ghost use Rattle.format.specs.Items.{since13·3};
 ghost use Rattle.format.specs.Items as items;
 ghost use Rattle.format.specs.Sheet.{globalWords, functionWords};
 ghost use Rattle.format.specs.DecodeRows.{globalAt, globalsAt, bodyAt, functionAt, functionsAt};
@@ -65,17 +64,6 @@ pub enum FuncRead {
     Stop(Refused),
 }
 
-// Whether a version class is from 13.3 on.
-fn from_13_3(class: VersionClass) -> bool
-    ensures { λ r. ⌜ r ≡ since13·3 «class» ⌝ }
-{
-    match class {
-        VersionClass::Below13_3 => false,
-        VersionClass::From13_3 => true,
-        VersionClass::From13_4 => true,
-    }
-}
-
 // Nonzero means 1.
 fn truth(v: u64) -> u64
     ensures { λ r. ⌜ r ≡ items.truth v ⌝ }
@@ -87,7 +75,7 @@ fn truth(v: u64) -> u64
 fn read_linkage(payload: &[u8], class: VersionClass, reader: Reader) -> LinkageRead
     ensures { λ r. ⌜ gotLinkage r ≡ linkageAt «class» (now (payload .entry)) (reader .pos) ⌝ }
 {
-    if from_13_3(class) {
+    if class.from_13_3() {
         match reader.read_byte(payload) {
             ByteRead::Stop(x) => LinkageRead::Stop(x),
             ByteRead::Got(visibility, r) => match r.read_varint(payload) {

@@ -4,14 +4,14 @@ ghost use mathlib.Core.Path.{_≡_};
 ghost use Prim.Native.Nat.{ℕ, _+_, _-_, _*_, _^_, _≤_};
 ghost use lib.ListN.{length};
 ghost use mathlib.Core.List.{List, []};
-ghost use Rattle.exact.specs.Sequence.{map};
+ghost use Rattle.exact.specs.Sequence.{mapped};
 ghost use Rattle.format.specs.Sheet.{fieldWords, typeWords};
 ghost use Rattle.format.specs.DecodeTypes.{pointerAt, tileAt, tensorViewAt, partitionViewAt, oldPartitionViewAt, gatherScatterViewAt, stridedViewAt, functionTypeAt, fieldsAt, typeEntryAt, typesAt};
 ghost use Rattle.exact.specs.Basic.{byte};
 ghost use Rattle.format.specs.Items.{truth};
 ghost use Rattle.enums.specs.Refusals as refusals;
 ghost use Rattle.payloads.specs.declared.fields.SpotRead.the-variants as spot;
-ghost use Rattle.payloads.specs.Fields.{Within, Grows, Copied, none};
+ghost use Rattle.payloads.specs.Fields.{Within, Grows, Copied, unput};
 ghost use Rattle.payloads.specs.TypeRows.{partitionAt, Row, Spare, Short, rowWords, rowsWords, entryIn, startOf, entriesFrom, Inside, typeRows, startsAndEntries};
 ghost use Rattle.payloads.specs.Fill.{Fits, Fills};
 use crate::answers::Filled;
@@ -39,7 +39,7 @@ use reading::U32Read;
 // One reader for each kind: the tag, and the fields behind it.
 fn pointer(entry: &[u8], class: VersionClass, sheet: &mut [u8], at: Spot) -> SpotRead
     requires { ⌜ Spare (now «entry») at ⌝ }
-    ensures { λ r. ⌜ Row (map fieldWords (pointerAt «class») (now («entry» .entry)) (at .pos)) (at .word) (now (sheet .entry)) (now (sheet .exit)) r ⌝ }
+    ensures { λ r. ⌜ Row (mapped fieldWords (pointerAt «class») (now («entry» .entry)) (at .pos)) (at .word) (now (sheet .entry)) (now (sheet .exit)) r ⌝ }
     ensures { λ r. ⌜ Within (now («entry» .entry)) (at .pos) (at .word) 7 r ⌝ }
 {
     let tag = SpotRead::Got(put_value(sheet, TypeTag::POINTER as u64, at));
@@ -50,7 +50,7 @@ fn pointer(entry: &[u8], class: VersionClass, sheet: &mut [u8], at: Spot) -> Spo
 
 fn tile(entry: &[u8], sheet: &mut [u8], at: Spot) -> SpotRead
     requires { ⌜ Spare (now «entry») at ⌝ }
-    ensures { λ r. ⌜ Row (map fieldWords tileAt (now («entry» .entry)) (at .pos)) (at .word) (now (sheet .entry)) (now (sheet .exit)) r ⌝ }
+    ensures { λ r. ⌜ Row (mapped fieldWords tileAt (now («entry» .entry)) (at .pos)) (at .word) (now (sheet .entry)) (now (sheet .exit)) r ⌝ }
     ensures { λ r. ⌜ Within (now («entry» .entry)) (at .pos) (at .word) 7 r ⌝ }
 {
     let tag = SpotRead::Got(put_value(sheet, TypeTag::TILE as u64, at));
@@ -60,7 +60,7 @@ fn tile(entry: &[u8], sheet: &mut [u8], at: Spot) -> SpotRead
 
 fn tensor_view(entry: &[u8], class: VersionClass, sheet: &mut [u8], at: Spot) -> SpotRead
     requires { ⌜ Spare (now «entry») at ⌝ }
-    ensures { λ r. ⌜ Row (map fieldWords (tensorViewAt «class») (now («entry» .entry)) (at .pos)) (at .word) (now (sheet .entry)) (now (sheet .exit)) r ⌝ }
+    ensures { λ r. ⌜ Row (mapped fieldWords (tensorViewAt «class») (now («entry» .entry)) (at .pos)) (at .word) (now (sheet .entry)) (now (sheet .exit)) r ⌝ }
     ensures { λ r. ⌜ Within (now («entry» .entry)) (at .pos) (at .word) 7 r ⌝ }
 {
     let tag = SpotRead::Got(put_value(sheet, TypeTag::TENSOR_VIEW as u64, at));
@@ -73,7 +73,7 @@ fn tensor_view(entry: &[u8], class: VersionClass, sheet: &mut [u8], at: Spot) ->
 
 fn partition_view(entry: &[u8], sheet: &mut [u8], at: Spot) -> SpotRead
     requires { ⌜ Spare (now «entry») at ⌝ }
-    ensures { λ r. ⌜ Row (map fieldWords partitionViewAt (now («entry» .entry)) (at .pos)) (at .word) (now (sheet .entry)) (now (sheet .exit)) r ⌝ }
+    ensures { λ r. ⌜ Row (mapped fieldWords partitionViewAt (now («entry» .entry)) (at .pos)) (at .word) (now (sheet .entry)) (now (sheet .exit)) r ⌝ }
     ensures { λ r. ⌜ Within (now («entry» .entry)) (at .pos) (at .word) 7 r ⌝ }
 {
     let tag = SpotRead::Got(put_value(sheet, TypeTag::PARTITION_VIEW as u64, at));
@@ -86,7 +86,7 @@ fn partition_view(entry: &[u8], sheet: &mut [u8], at: Spot) -> SpotRead
 
 // The presence byte below 13.3 (nonzero means 1): its word stands before what is read before it.
 fn read_presence(entry: &[u8], from: SpotRead) -> SpotRead
-    ensures { λ r. ⌜ ((s : List ℕ) → Copied (none (map truth byte)) (now («entry» .entry)) from s s r) ⌝ }
+    ensures { λ r. ⌜ ((s : List ℕ) → Copied (unput (mapped truth byte)) (now («entry» .entry)) from s s r) ⌝ }
     ensures { λ r. ⌜ Grows (now («entry» .entry)) from r ⌝ }
 {
     match from {
@@ -105,7 +105,7 @@ fn read_presence(entry: &[u8], from: SpotRead) -> SpotRead
 // Below 13.3 the fields behind the presence's word are copied first, and the two words before them are put after that.
 fn old_partition_view(entry: &[u8], sheet: &mut [u8], at: Spot) -> SpotRead
     requires { ⌜ Spare (now «entry») at ⌝ }
-    ensures { λ r. ⌜ Row (map fieldWords oldPartitionViewAt (now («entry» .entry)) (at .pos)) (at .word) (now (sheet .entry)) (now (sheet .exit)) r ⌝ }
+    ensures { λ r. ⌜ Row (mapped fieldWords oldPartitionViewAt (now («entry» .entry)) (at .pos)) (at .word) (now (sheet .entry)) (now (sheet .exit)) r ⌝ }
     ensures { λ r. ⌜ Within (now («entry» .entry)) (at .pos) (at .word) 7 r ⌝ }
 {
     let begun = SpotRead::Got(Spot {
@@ -125,7 +125,7 @@ fn old_partition_view(entry: &[u8], sheet: &mut [u8], at: Spot) -> SpotRead
 
 fn gather_scatter_view(entry: &[u8], sheet: &mut [u8], at: Spot) -> SpotRead
     requires { ⌜ Spare (now «entry») at ⌝ }
-    ensures { λ r. ⌜ Row (map fieldWords gatherScatterViewAt (now («entry» .entry)) (at .pos)) (at .word) (now (sheet .entry)) (now (sheet .exit)) r ⌝ }
+    ensures { λ r. ⌜ Row (mapped fieldWords gatherScatterViewAt (now («entry» .entry)) (at .pos)) (at .word) (now (sheet .entry)) (now (sheet .exit)) r ⌝ }
     ensures { λ r. ⌜ Within (now («entry» .entry)) (at .pos) (at .word) 7 r ⌝ }
 {
     let tag = SpotRead::Got(put_value(sheet, TypeTag::GATHER_SCATTER_VIEW as u64, at));
@@ -138,7 +138,7 @@ fn gather_scatter_view(entry: &[u8], sheet: &mut [u8], at: Spot) -> SpotRead
 
 fn strided_view(entry: &[u8], sheet: &mut [u8], at: Spot) -> SpotRead
     requires { ⌜ Spare (now «entry») at ⌝ }
-    ensures { λ r. ⌜ Row (map fieldWords stridedViewAt (now («entry» .entry)) (at .pos)) (at .word) (now (sheet .entry)) (now (sheet .exit)) r ⌝ }
+    ensures { λ r. ⌜ Row (mapped fieldWords stridedViewAt (now («entry» .entry)) (at .pos)) (at .word) (now (sheet .entry)) (now (sheet .exit)) r ⌝ }
     ensures { λ r. ⌜ Within (now («entry» .entry)) (at .pos) (at .word) 7 r ⌝ }
 {
     let tag = SpotRead::Got(put_value(sheet, TypeTag::STRIDED_VIEW as u64, at));
@@ -152,7 +152,7 @@ fn strided_view(entry: &[u8], sheet: &mut [u8], at: Spot) -> SpotRead
 
 fn function(entry: &[u8], sheet: &mut [u8], at: Spot) -> SpotRead
     requires { ⌜ Spare (now «entry») at ⌝ }
-    ensures { λ r. ⌜ Row (map fieldWords functionTypeAt (now («entry» .entry)) (at .pos)) (at .word) (now (sheet .entry)) (now (sheet .exit)) r ⌝ }
+    ensures { λ r. ⌜ Row (mapped fieldWords functionTypeAt (now («entry» .entry)) (at .pos)) (at .word) (now (sheet .entry)) (now (sheet .exit)) r ⌝ }
     ensures { λ r. ⌜ Within (now («entry» .entry)) (at .pos) (at .word) 7 r ⌝ }
 {
     let tag = SpotRead::Got(put_value(sheet, TypeTag::FUNC as u64, at));
@@ -163,14 +163,13 @@ fn function(entry: &[u8], sheet: &mut [u8], at: Spot) -> SpotRead
 // A partition view, by the version class.
 fn any_partition_view(entry: &[u8], class: VersionClass, sheet: &mut [u8], at: Spot) -> SpotRead
     requires { ⌜ Spare (now «entry») at ⌝ }
-    ensures { λ r. ⌜ Row (map fieldWords (partitionAt «class») (now («entry» .entry)) (at .pos)) (at .word) (now (sheet .entry)) (now (sheet .exit)) r ⌝ }
+    ensures { λ r. ⌜ Row (mapped fieldWords (partitionAt «class») (now («entry» .entry)) (at .pos)) (at .word) (now (sheet .entry)) (now (sheet .exit)) r ⌝ }
     ensures { λ r. ⌜ Within (now («entry» .entry)) (at .pos) (at .word) 7 r ⌝ }
 {
-    match class {
-        VersionClass::Below13_3 => old_partition_view(entry, sheet, at),
-        VersionClass::From13_3 => partition_view(entry, sheet, at),
-        VersionClass::From13_4 => partition_view(entry, sheet, at),
+    if class.from_13_3() {
+        return partition_view(entry, sheet, at);
     }
+    old_partition_view(entry, sheet, at)
 }
 
 // The tag and what stands behind it, by kind; a tag that is not known is refused at the entry's first byte.
@@ -182,7 +181,7 @@ fn decode_fields(
     at: Spot,
 ) -> SpotRead
     requires { ⌜ Spare (now «entry») at ⌝ }
-    ensures { λ r. ⌜ Row (map fieldWords (fieldsAt «class» 0 tag) (now («entry» .entry)) (at .pos)) (at .word) (now (sheet .entry)) (now (sheet .exit)) r ⌝ }
+    ensures { λ r. ⌜ Row (mapped fieldWords (fieldsAt «class» 0 tag) (now («entry» .entry)) (at .pos)) (at .word) (now (sheet .entry)) (now (sheet .exit)) r ⌝ }
     ensures { λ r. ⌜ Within (now («entry» .entry)) (at .pos) (at .word) 7 r ⌝ }
 {
     match tag {
@@ -204,7 +203,7 @@ fn decode_fields(
 // A type entry: the number of words that follow is put when they are.
 fn decode_type_entry(entry: &[u8], class: VersionClass, sheet: &mut [u8], word: usize) -> SpotRead
     requires { ⌜ word + 8 * length (now «entry») ≤ 2 ^ 61 ⌝ }
-    ensures { λ r. ⌜ Row (map typeWords (typeEntryAt «class») (now («entry» .entry)) 0) word (now (sheet .entry)) (now (sheet .exit)) r ⌝ }
+    ensures { λ r. ⌜ Row (mapped typeWords (typeEntryAt «class») (now («entry» .entry)) 0) word (now (sheet .entry)) (now (sheet .exit)) r ⌝ }
     ensures { λ r. ⌜ Short (now («entry» .entry)) word r ⌝ }
 {
     match (Reader { pos: 0 }).read_varint(entry) {

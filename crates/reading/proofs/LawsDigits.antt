@@ -9,7 +9,7 @@ use mathlib.Core.List.{List}
 use lib.ListN.{length, getD}
 use Rattle.exact.specs.Got.{Got, got, stop, ended, follow}
 use Rattle.exact.specs.Basic.{pure, fail}
-use Rattle.exact.specs.Sequence.{bind, map}
+use Rattle.exact.specs.Sequence.{bind, mapped}
 use Rattle.exact.specs.Padding.{broke, blamed}
 use Rattle.exact.proofs.LawsChoice.{choose-yes, choose-no}
 use Rattle.exact.proofs.LawsSteps.{byte-at, byte-end}
@@ -32,11 +32,11 @@ module _ (l : List ℕ) (i : ℕ) where
   digits-last k h b = rw (byte-at l i h, choose-yes (decLt (getD l i 0) 128) (pure (getD l i 0)) _ b)
 
   digits-more : (k : ℕ) → i < length l → 128 ≤ getD l i 0 → digits (suc k) l i ≡ grow (getD l i 0 % 128) 128 (digits k l (i + 1))
-  unfolding digits bind follow pure map
+  unfolding digits bind follow pure mapped
   digits-more k h b =
       let c : ℕ = getD l i 0 in
       rw (byte-at l i h)
-      (ap (λ p. p l (i + 1)) (choose-no (decLt c 128) (pure c) (map (λ v. c % 128 + 128 * v) (digits k)) (omega arith)))
+      (ap (λ p. p l (i + 1)) (choose-no (decLt c 128) (pure c) (mapped (λ v. c % 128 + 128 * v) (digits k)) (omega arith)))
 
   digits-tenth : i < length l → getD l i 0 < 128 → digits zero l i ≡ got (getD l i 0 % 2) (i + 1)
   unfolding digits bind follow pure

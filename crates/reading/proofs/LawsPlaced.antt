@@ -10,25 +10,26 @@ use lib.ListN.{length, take, drop}
 use Rattle.exact.specs.Got.{Got, got, stop, ended, follow}
 use Rattle.exact.specs.Exact.{Parser}
 use Rattle.exact.specs.Basic.{pure}
-use Rattle.exact.specs.Sequence.{bind, map}
+use Rattle.exact.specs.Sequence.{bind, mapped}
 use Rattle.exact.specs.Repeat.{times, counted}
 use Rattle.exact.specs.Fixed.{raw, little, fixed, nums}
 use Rattle.exact.specs.Padding.{here}
 use Rattle.exact.proofs.LawsExact.{stop-not-got, got-value, got-next}
 use Rattle.exact.proofs.LawsSequence.{follow-inv, bind-got, bind-stop}
 use Rattle.exact.proofs.LawsSteps.{raw-at, raw-end, fixed-at, times-at, times-end}
+use Rattle.exact.proofs.LawsFixed.{length-nums}
 use Rattle.reading.specs.Numbers.{varintAt, placed, itemsAt, countedAt, Word}
 use Rattle.reading.proofs.LawsNumbers.{varint-in}
 
 module _ {A : Type 0} (p : Parser A) (l : List ℕ) (i : ℕ) where
   -- A value that was read, with its place ..
   pub placed-at : (v : A) (j : ℕ) → p l i ≡ got v j → placed p l i ≡ got (i, v) j
-  unfolding placed here map bind follow pure
+  unfolding placed here mapped bind follow pure
   placed-at v j e = rw e
 
   -- .. and a refusal.
   pub placed-end : (c k : ℕ) → p l i ≡ stop c k → placed p l i ≡ stop c k
-  unfolding placed here map bind follow
+  unfolding placed here mapped bind follow
   placed-end c k e = rw e
 
   -- A value with a place was read there ..
@@ -85,7 +86,7 @@ module _ (n : ℕ) (s : List ℕ) (i : ℕ) where
 
   -- .. and one that was refused.
   pub run-stop : (c k : ℕ) → placed (raw n) s i ≡ stop c k → stop c k ≡ fixed n s i
-  unfolding fixed map bind follow
+  unfolding fixed mapped bind follow
   run-stop c k e = rw (placed-stop (raw n) s i c k e)
 
 module _ (w : ℕ) (s : List ℕ) (i : ℕ) where
@@ -123,12 +124,6 @@ module _ (w : ℕ) (s : List ℕ) (i : ℕ) where
 pos-of : (n w : ℕ) → 0 < n * w → 0 < w
 pos-of n zero h = let z : n * 0 ≡ 0 = mul-zero n in omega arith
 pos-of n (suc w) h = omega arith
-
--- n numbers are n.
-pub length-nums : (n w : ℕ) (s : List ℕ) → length (nums n w s) ≡ n
-unfolding nums
-length-nums zero w s = refl
-length-nums (suc n) w s = ap suc (length-nums n w (drop w s))
 
 -- n numbers that were read are those at the place, and are all there.
 pub times-got : (n w : ℕ) (l : List ℕ) (i : ℕ) (vs : List ℕ) (j : ℕ) → times n (fixed w) l i ≡ got vs j →

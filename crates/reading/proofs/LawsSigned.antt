@@ -14,20 +14,20 @@ use mir.Facts.{toZ-ofZ}
 use Rattle.exact.specs.Got.{got, stop, follow}
 use Rattle.exact.specs.Exact.{Parser}
 use Rattle.exact.specs.Basic.{pure}
-use Rattle.exact.specs.Sequence.{bind, map}
+use Rattle.exact.specs.Sequence.{bind, mapped}
 use Rattle.exact.proofs.LawsChoice.{choose-yes, choose-no}
 use Rattle.encoding.specs.Signed.{unzigzag, signed}
 use Rattle.encoding.proofs.LawsSigned.{zigzag-unzigzag, zigzag-fits}
 
 module _ {A B : Type 0} (f : A → B) (p : Parser A) (l : List ℕ) (i : ℕ) where
   -- A function of a value that was read ..
-  pub map-at : (v : A) (j : ℕ) (w : B) → p l i ≡ got v j → w ≡ f v → got w j ≡ map f p l i
-  unfolding map bind follow pure
+  pub map-at : (v : A) (j : ℕ) (w : B) → p l i ≡ got v j → w ≡ f v → got w j ≡ mapped f p l i
+  unfolding mapped bind follow pure
   map-at v j w e h = rw (e, h)
 
   -- .. and of a refusal.
-  pub map-end : (c k : ℕ) → p l i ≡ stop c k → stop c k ≡ map f p l i
-  unfolding map bind follow
+  pub map-end : (c k : ℕ) → p l i ≡ stop c k → stop c k ≡ mapped f p l i
+  unfolding mapped bind follow
   map-end c k e = rw e
 
 -- An even number is the zigzag of its half ..

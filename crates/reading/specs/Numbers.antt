@@ -8,7 +8,7 @@ use lib.IntN.{ℤ}
 use lib.ListN.{length, take, drop}
 use Rattle.exact.specs.Exact.{Parser}
 use Rattle.exact.specs.Basic.{byte, pure, fail}
-use Rattle.exact.specs.Sequence.{bind, map}
+use Rattle.exact.specs.Sequence.{bind, mapped}
 use Rattle.exact.specs.Choice.{choose}
 use Rattle.exact.specs.Repeat.{times, counted}
 use Rattle.exact.specs.Fixed.{little, fixed}
@@ -20,7 +20,7 @@ use Rattle.encoding.specs.Signed.{unzigzag, signed}
 -- The digits of a varint of which k more bytes may follow before the tenth.
 unfoldable pub digits : ℕ → Parser ℕ
 digits zero = bind byte (λ b. choose (decLt b 128) (pure (b % 2)) (fail refusals.overlong))
-digits (suc k) = bind byte (λ b. choose (decLt b 128) (pure b) (map (λ v. b % 128 + 128 * v) (digits k)))
+digits (suc k) = bind byte (λ b. choose (decLt b 128) (pure b) (mapped (λ v. b % 128 + 128 * v) (digits k)))
 
 -- A varint.
 unfoldable pub varintAt : Parser ℕ
@@ -28,11 +28,11 @@ varintAt = blamed (digits 9)
 
 -- A signed varint.
 unfoldable pub signedVarintAt : Parser ℤ
-signedVarintAt = map unzigzag varintAt
+signedVarintAt = mapped unzigzag varintAt
 
 -- A signed number of w bytes.
 unfoldable pub signedAt : ℕ → Parser ℤ
-signedAt w = map (signed (8 * w)) (fixed w)
+signedAt w = mapped (signed (8 * w)) (fixed w)
 
 -- Padding to a, the place counted from the payload's start.
 unfoldable pub paddingAt : ℕ → Parser (Unit {0})
@@ -44,7 +44,7 @@ countedAt w = counted varintAt (fixed w)
 
 -- What p reads, with the place where it begins.
 unfoldable pub placed : {A : Type 0} → Parser A → Parser (ℕ × A)
-placed p = here (λ i. map (λ v. (i, v)) p)
+placed p = here (λ i. mapped (λ v. (i, v)) p)
 
 -- A counted array with the place of its first number.
 unfoldable pub itemsAt : ℕ → Parser (ℕ × List ℕ)

@@ -5,6 +5,7 @@ use lib.IntN.{ℤ}
 use lib.ListN.{take, drop}
 use Rattle.exact.specs.Got.{Got, got, stop}
 use Rattle.exact.specs.Fixed.{nums}
+use Rattle.reading.specs.declared.Reader.{Reader}
 use Rattle.reading.specs.declared.ByteRead.{ByteRead}
 use Rattle.reading.specs.declared.ByteRead.the-variants as byte
 use Rattle.reading.specs.declared.U16Read.{U16Read}
@@ -23,6 +24,10 @@ use Rattle.reading.specs.declared.PaddingRead.{PaddingRead}
 use Rattle.reading.specs.declared.PaddingRead.the-variants as padding
 use Rattle.reading.specs.declared.ItemsRead.{ItemsRead}
 use Rattle.reading.specs.declared.ItemsRead.the-variants as items
+
+-- A new reader stands at the start.
+abbrev pub newReader : Reader
+newReader = record { pos = 0 }
 
 abbrev pub gotByte : ByteRead → Got ℕ
 gotByte (byte.Got b r) = got b (r .pos)

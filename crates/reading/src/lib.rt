@@ -8,7 +8,7 @@ ghost use Rattle.exact.specs.Fixed.{raw, fixed};
 ghost use Rattle.encoding.specs.Signed as Signed;
 ghost use Rattle.reading.specs.Numbers.{varintAt, signedVarintAt, signedAt, paddingAt, placed, itemsAt};
 ghost use Rattle.reading.specs.Numbers.{remainingAt, Word, Begins};
-ghost use Rattle.reading.specs.Shown.{gotByte, gotU16, gotU32, gotNum, gotI32, gotI64};
+ghost use Rattle.reading.specs.Shown.{newReader, gotByte, gotU16, gotU32, gotNum, gotI32, gotI64};
 ghost use Rattle.reading.specs.Shown.{gotBytes, gotPadding, gotItems};
 use enums::ALIGNMENT_BYTE;
 use enums::Refusal;
@@ -126,7 +126,7 @@ fn unzigzag(v: u64) -> i64
 impl Reader {
     // At the start of the data.
     pub fn new() -> Self
-        ensures { λ r. ⌜ r .pos ≡ 0 ⌝ }
+        ensures { λ r. ⌜ r ≡ newReader ⌝ }
     {
         Reader { pos: 0 }
     }

@@ -1,14 +1,15 @@
 -- A call answers what the crate below answered; and any two results that a call's contract allows are equal.
 -- Assumes nothing.
 use mathlib.Core.Path.{_≡_, refl, sym, ap, _∙_, subst}
-use Prim.Native.Nat.{ℕ, _≤_, _<_}
+use Prim.Native.Nat.{ℕ, _≤_}
 use native.Mathlib.Decide.{decLe}
-use native.Mathlib.Omega.{arith}
 use mathlib.Core.List.{List}
 use lib.ListN.{length, drop}
-use Rattle.exact.specs.Got.{stop}
+use Rattle.exact.specs.Got.{Got, stop}
 use Rattle.exact.specs.Exact.{Parser}
+use Rattle.exact.specs.Choice.{choose}
 use Rattle.exact.proofs.LawsChoice.{choose-yes, choose-no}
+use Rattle.exact.proofs.LawsFixed.{length-nums}
 use Rattle.enums.specs.Refusals as refusals
 use Rattle.encoding.specs.Out.{Wrote}
 use Rattle.encoding.specs.Shown as below
@@ -18,13 +19,12 @@ use Rattle.encoding.specs.declared.EncodingWriter.{EncodingWriter}
 use Rattle.encoding.specs.declared.FloatType.{FloatType}
 use Rattle.encoding.specs.declared.Written.{Written}
 use Rattle.reading.specs.Shown.{gotBytes, gotItems}
-use Rattle.reading.proofs.LawsPlaced.{length-nums}
 use Rattle.reading.specs.declared.BytesRead.{BytesRead}
 use Rattle.reading.specs.declared.BytesRead.the-variants as bytes
 use Rattle.reading.specs.declared.ItemsRead.{ItemsRead}
 use Rattle.reading.specs.declared.ItemsRead.the-variants as array
 use Rattle.tikomuci.specs.declared.Answer.{Answer}
-use Rattle.tikomuci.specs.Boundary.{Puts, Writes, WritesFloat, nextPlace, reached, run, runOf, items, itemsOf}
+use Rattle.tikomuci.specs.Boundary.{refusedAs, Puts, Writes, WritesFloat, nextPlace, reached, run, runOf, items, itemsOf}
 
 -- An answer that shows x, which is known to be y, shows y.
 pub told : {A : Type 0} (f : A → Answer) {r : Answer} {x y : A} → r ≡ f x → x ≡ y → r ≡ f y
@@ -40,15 +40,15 @@ pub puts-float : {w : EncodingWriter} {bits : ℕ} {ty : FloatType} {out out' : 
     r ≡ nextPlace (below.wroteOf x) → floats.WritesFloat w bits ty out out' x → WritesFloat (w .at) bits ty out out' r
 puts-float e f p = record { bytes = p .bytes; spelt = p .spelt; written = rw (← e) (puts nextPlace f (p .written)) }
 
--- A place that is not past the data ..
-pub reached-in : {A : Type 0} (p : Parser A) (l : List ℕ) (i : ℕ) → i ≤ length l → reached p l i ≡ p l i
+-- An answer that was refused past the data shows what is refused there.
+pub shown-past : {A : Type 0} (f : Got A → Answer) → ((c k : ℕ) → f (stop c k) ≡ refusedAs c) → (p : Parser A) (l : List ℕ)
+    (i : ℕ) {r a : Answer} → r ≡ choose (decLe i (length l)) a (refusedAs refusals.short) → a ≡ f (p l i) → r ≡ f (reached p l i)
 unfolding reached
-reached-in p l i h = choose-yes (decLe i (length l)) (p l i) (stop refusals.short i) h
-
--- .. and one that is.
-pub reached-past : {A : Type 0} (p : Parser A) (l : List ℕ) (i : ℕ) → length l < i → reached p l i ≡ stop refusals.short i
-unfolding reached
-reached-past p l i h = choose-no (decLe i (length l)) (p l i) (stop refusals.short i) (λ g. omega (arith, g, h))
+shown-past f refuses p l i {r} {a} e h = e ∙ go (decLe i (length l))
+  where
+    go : (d : Dec (i ≤ length l)) → choose d a (refusedAs refusals.short) ≡ f (choose d (p l i) (stop refusals.short i))
+    go (yes k) = choose-yes (yes k) _ _ k ∙ h ∙ ap f (sym (choose-yes (yes k) _ _ k))
+    go (no k) = choose-no (no k) _ _ k ∙ sym (refuses refusals.short i) ∙ ap f (sym (choose-no (no k) _ _ k))
 
 -- A run is answered by its places, whatever the data ..
 pub run-of : (s : List ℕ) (r : BytesRead) → runOf r ≡ run (gotBytes s r)

@@ -20,6 +20,10 @@ use Rattle.reading.specs.declared.ItemsRead.{ItemsRead}
 use Rattle.reading.specs.declared.ItemsRead.the-variants as array
 use Rattle.tikomuci.specs.declared.Answer.{Answer}
 
+-- The number of this boundary: of its names, their parameters, and the answer.
+abbrev pub abi : ℕ
+abi = 1
+
 -- An acceptance, with its two numbers.
 abbrev pub accepted : ℕ → ℕ → Answer
 accepted a b = record { refusal = 0; stage = 0; first = a; second = b }

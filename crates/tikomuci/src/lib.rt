@@ -21,9 +21,11 @@ use reading::U32Read;
 use writer::Imaged;
 ghost use mathlib.Core.Path.{_≡_};
 ghost use Prim.Native.Nat.{_-_};
+ghost use native.Mathlib.Decide.{decLe};
 ghost use mathlib.Core.List.{[], _∷_, map};
-ghost use lib.ListN.{replicate};
+ghost use lib.ListN.{length, replicate};
 ghost use Rattle.exact.specs.Basic.{byte};
+ghost use Rattle.exact.specs.Choice.{choose};
 ghost use Rattle.exact.specs.Fixed.{bytesOf, fixed, raw};
 ghost use Rattle.exact.specs.Padding.{gap};
 ghost use Rattle.enums.specs.Container.{P};
@@ -35,15 +37,17 @@ ghost use Rattle.encoding.specs.Shown.{wroteOf, patchedOf};
 ghost use Rattle.encoding.specs.Signed.{zigzag, pattern};
 ghost use Rattle.encoding.specs.Varint.{spelling};
 ghost use Rattle.reading.specs.Numbers.{varintAt, signedVarintAt, signedAt, paddingAt, itemsAt, remainingAt, placed};
-ghost use Rattle.reading.specs.Shown.{gotByte, gotU16, gotU32, gotNum, gotI32, gotI64, gotBytes, gotPadding, gotItems};
+ghost use Rattle.reading.specs.Shown.{gotByte, gotU16, gotU32, gotNum, gotI32, gotI64, gotPadding};
 ghost use Rattle.enums.specs.Container.{stringId, constantId, funcId};
 ghost use Rattle.format.specs.Views.{stringsIn, constantsIn, bodiesIn};
 ghost use Rattle.container.specs.Views.{viewOf};
 ghost use Rattle.payloads.specs.Whole.{fileRead};
-ghost use Rattle.tikomuci.specs.Boundary.{accepted, refusedAs, Puts, Writes, WritesFloat, Patches, nextPlace, nextAligned, number, signedNumber, reached, run, runOf, items, itemsOf, skipped};
+ghost use Rattle.tikomuci.specs.Boundary.{abi, accepted, refusedAs, Puts, Writes, WritesFloat, Patches, nextPlace, nextAligned, number, signedNumber, reached, run, runOf, items, itemsOf, skipped};
 ghost use Rattle.tikomuci.specs.Views.{view, SectionViewed, RowViewed};
 ghost use Rattle.tikomuci.specs.Files.{needed, Measured, FileDone};
 ghost use Rattle.tikomuci.specs.Sheets.{size, SheetWritten, SheetImaged};
+
+const ABI: u64 = 1;
 
 // What every call that can be refused answers.
 #[repr(C)]
@@ -214,6 +218,33 @@ fn passed(at: u64, next: u64) -> u64
         return next - at;
     }
     0
+}
+
+// The answer of a reader, unless its place is past the data: a read there is refused, even one of no bytes. The readers
+// below do not ask, since inside a file no reader stands past the end.
+fn unless_past(data: &[u8], at: u64, answer: Answer) -> Answer
+    ensures { λ r. ⌜ r ≡ choose (decLe at (length (now («data» .entry)))) answer (refusedAs refusals.short) ⌝ }
+{
+    if (data.len() as u64) < at {
+        return Answer::refuse(Refusal::SHORT);
+    }
+    answer
+}
+
+// The number of this boundary: it grows with each change that an object compiled before it would not notice.
+#[no_mangle]
+pub extern "C" fn tikomuci_abi() -> u64
+    ensures { λ r. ⌜ r ≡ abi ⌝ }
+{
+    ABI
+}
+
+// The same, by a name that has the number in it: an object that asks for another does not link.
+#[no_mangle]
+pub extern "C" fn tikomuci_abi_1() -> u64
+    ensures { λ r. ⌜ r ≡ abi ⌝ }
+{
+    ABI
 }
 
 // One byte.
@@ -485,11 +516,8 @@ pub extern "C" fn tikomuci_read_byte(data: &[u8], at: u64) -> Answer
 pub extern "C" fn tikomuci_read_bytes(data: &[u8], at: u64, n: u64) -> Answer
     ensures { λ r. ⌜ r ≡ run (reached (placed (raw n)) (now («data» .entry)) at) ⌝ }
 {
-    if (data.len() as u64) < at {
-        return Answer::refuse(Refusal::SHORT);
-    }
     let reader = Reader { pos: at as usize };
-    bytes_read(reader.read_bytes(data, n as usize))
+    unless_past(data, at, bytes_read(reader.read_bytes(data, n as usize)))
 }
 
 // A varint, in any of its spellings.
@@ -582,13 +610,14 @@ pub extern "C" fn tikomuci_read_le_var_size_i32(data: &[u8], at: u64) -> Answer
     items_read(reader.read_le_var_size_i32(data))
 }
 
-// Passes over padding to a multiple of `alignment`: `first` is how many bytes it has.
+// Passes over padding to a multiple of `alignment`: `first` is how many bytes it has. Past the data none is refused too.
 #[no_mangle]
 pub extern "C" fn tikomuci_skip_padding(data: &[u8], at: u64, alignment: u64) -> Answer
-    ensures { λ r. ⌜ r ≡ skipped at (paddingAt alignment (now («data» .entry)) at) ⌝ }
+    ensures { λ r. ⌜ r ≡ skipped at (reached (paddingAt alignment) (now («data» .entry)) at) ⌝ }
 {
     let reader = Reader { pos: at as usize };
-    padding_read(at, reader.skip_padding(data, alignment))
+    let padding = padding_read(at, reader.skip_padding(data, alignment));
+    unless_past(data, at, padding)
 }
 
 // How many bytes are left at a place: none past the end.

@@ -178,6 +178,8 @@ void padding() {
     const auto passed_over = reader.skip_padding(4);
     expect(passed_over && passed_over.value == 3 && reader.tell() == 4, "three padding bytes");
     expect(Reader(Bytes(wire).first(3), 1).skip_padding(4).outcome == SHORT, "padding cut short");
+    expect(Reader(wire, 5).skip_padding(1) && Reader(wire, 6).skip_padding(1).outcome == SHORT,
+           "no padding at the end of the data, and past it");
     wire[2] = 0xCA;
     expect(Reader(wire, 1).skip_padding(4).outcome == PADDING, "a wrong padding byte");
     expect(Reader(Bytes(wire).first(3), 1).skip_padding(4).outcome == PADDING, "a wrong byte before the end");

@@ -1,7 +1,9 @@
--- `tikomuci_skip_padding` answers what crate reading answered. Assumes nothing.
+-- `tikomuci_skip_padding` refuses a place past the data, and else answers what crate reading answered. Assumes nothing.
+use mathlib.Core.Path.{refl}
 use borrow.Author.Needs.{needs}
+use Rattle.reading.specs.Numbers.{paddingAt}
 use Rattle.tikomuci.specs.Boundary.{skipped}
-use Rattle.tikomuci.proofs.LawsBoundary.{told}
+use Rattle.tikomuci.proofs.LawsBoundary.{shown-past, told}
 use Rattle.tikomuci.proofs.tikomuci_skip_padding.Statement.{statement}
 use Rattle.tikomuci.proofs.tikomuci_skip_padding.Tie as tie
 
@@ -11,9 +13,15 @@ skip-padding-requires c κs = search needs
 padding-read-requires : tie.Need-padding-read-requires
 padding-read-requires c κs = search needs
 
+unless-past-requires : tie.Need-unless-past-requires
+unless-past-requires c κs = search needs
+
 returns : tie.Need-returns
-returns c = told (skipped _) (c .padding-read .ensures) (c .before .skip-padding .ensures)
+returns c =
+    let given = c .before .before .before .before .args in
+    shown-past (skipped (given .at)) (λ c k. refl) (paddingAt (given .alignment)) (given .«data» .now) (given .at)
+    (c .unless-past .ensures) (told (skipped _) (c .before .padding-read .ensures) (c .before .before .skip-padding .ensures))
 
 pub tikomuci-skip-padding-spec : {M : Type 1} → statement M
 tikomuci-skip-padding-spec =
-    tie.close (tie.spec skip-padding-requires padding-read-requires returns)
+    tie.close (tie.spec skip-padding-requires padding-read-requires unless-past-requires returns)

@@ -72,7 +72,7 @@ fn padding_at_every_place() {
             for wrong in 0..=len {
                 let mut data = vec![0xCB; len];
                 data.iter_mut().skip(wrong).take(1).for_each(|byte| *byte = 0);
-                for at in 0..=len as u64 {
+                for at in (0..=len as u64 + 20).chain([u64::MAX]) {
                     let wanted = answer(plain::padding(&data, at, alignment));
                     assert_eq!(
                         boundary::skip_padding(&data, at, alignment),
@@ -103,6 +103,8 @@ fn refusals_by_name() {
     assert_eq!(boundary::read_varint(&[0xFF; 10], 0), Answer::refused(OVERLONG));
     assert_eq!(boundary::skip_padding(&[0xCB, 0xCA], 0, 4), Answer::accepted(0, 0));
     assert_eq!(boundary::skip_padding(&[0xCB, 0xCA], 1, 4), Answer::refused(PADDING));
+    assert_eq!(boundary::skip_padding(&[0xCB, 0xCA], 2, 1), Answer::accepted(0, 2));
+    assert_eq!(boundary::skip_padding(&[0xCB, 0xCA], 3, 1), Answer::refused(SHORT));
 }
 
 #[test]

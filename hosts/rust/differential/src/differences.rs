@@ -49,9 +49,13 @@ fn remaining_past_the_end() -> bool {
     wraps.ok() == (!sums_are_checked()).then_some(usize::MAX) && boundary::remaining(&[], 1) == 0
 }
 
+fn padding_past_the_data() -> bool {
+    Reader::at(&[], 1).skip_padding(1).is_ok() && boundary::skip_padding(&[], 1, 1) == Answer::refused(SHORT)
+}
+
 type Difference = (&'static str, fn() -> bool);
 
-const DIFFERENCES: [Difference; 7] = [
+const DIFFERENCES: [Difference; 8] = [
     ("an output that is too small", output_too_small),
     ("a patch outside the buffer", patch_outside),
     ("a patch whose end wraps", patch_whose_end_wraps),
@@ -59,6 +63,7 @@ const DIFFERENCES: [Difference; 7] = [
     ("a section whose end wraps", section_whose_end_wraps),
     ("what remains past the end", remaining_past_the_end),
     ("a string that is no UTF-8", invalid_utf8),
+    ("padding past the data", padding_past_the_data),
 ];
 
 pub fn compare(report: &mut Report) {

@@ -3,7 +3,7 @@ use mathlib.Core.Path.{sym, _∙_}
 use borrow.Author.Tests.{not-true, not-false}
 use Rattle.exact.specs.Got.{follow}
 use Rattle.exact.specs.Basic.{pure}
-use Rattle.exact.specs.Sequence.{bind, map}
+use Rattle.exact.specs.Sequence.{bind, mapped}
 use Rattle.reading.proofs.LawsWord.{fixed-one}
 use Rattle.reading.proofs.LawsShown.{told-byte, told-u16, told-bytes}
 use Rattle.format.specs.DecodeContainer.{headerAt}
@@ -27,7 +27,7 @@ is-magic-requires c κs =
     magic-in _ _ _ _ _ (told-bytes _ (q .at .given .1) (q .before .before .read-bytes .ensures))
 
 returns : tie.Need-returns
-unfolding headerAt bind follow map pure
+unfolding headerAt bind follow mapped pure
 returns c =
     let q = c .before .before .before in
     let run = told-bytes _ (q .at .given .1) (q .before .before .read-bytes .ensures) in
@@ -61,13 +61,13 @@ enum-known-tag : tie.Need-enum-known-tag
 enum-known-tag c = search needs
 
 returns-2 : tie.Need-returns-2
-unfolding headerAt bind follow map pure
+unfolding headerAt bind follow mapped pure
 returns-2 c =
     let run = told-bytes _ (c .before .x .given .1) (c .before .before .before .read-bytes .ensures) in
     rw (magic-short _ _ _ _ run)
 
 returns-3 : tie.Need-returns-3
-unfolding headerAt bind follow map pure
+unfolding headerAt bind follow mapped pure
 returns-3 c =
     let a = c .before in
     let p = a .before .before .before in
@@ -78,7 +78,7 @@ returns-3 c =
     rw (magic, major)
 
 returns-4 : tie.Need-returns-4
-unfolding headerAt bind follow map pure
+unfolding headerAt bind follow mapped pure
 returns-4 c =
     let b = c .before in
     let a = b .before .before .before .before in
@@ -91,7 +91,7 @@ returns-4 c =
     rw (magic, major, minor)
 
 returns-5 : tie.Need-returns-5
-unfolding headerAt bind follow map pure
+unfolding headerAt bind follow mapped pure
 returns-5 c =
     let d = c .before in
     let b = d .before .before .before .before in
@@ -106,7 +106,7 @@ returns-5 c =
     rw (magic, major, minor, tag)
 
 returns-6 : tie.Need-returns-6
-unfolding headerAt bind follow map pure
+unfolding headerAt bind follow mapped pure
 returns-6 c =
     let d = c .before in
     let b = d .before .before .before .before in

@@ -1,11 +1,11 @@
 -- `old_partition_view` copies the fields below 13.3, and puts tag and presence before them. Assumes nothing.
 use native.Mathlib.Omega.{arith}
 use Rattle.exact.specs.Basic.{byte}
-use Rattle.exact.specs.Sequence.{map}
+use Rattle.exact.specs.Sequence.{mapped}
 use Rattle.reading.specs.Numbers.{varintAt}
 use Rattle.format.specs.Items.{truth}
 use Rattle.payloads.specs.declared.fields.Number.the-variants.{I32}
-use Rattle.payloads.specs.Fields.{numberAt, one, none, listed}
+use Rattle.payloads.specs.Fields.{numberAt, asWord, unput, listed}
 use Rattle.payloads.proofs.LawsFields.{then, copied-then, copied-as}
 use Rattle.payloads.proofs.LawsTypes.{spare-room, grow, field-if, oldSteps}
 use Rattle.payloads.proofs.LawsTypeEntries.{old-row, old-within, spare-word}
@@ -68,9 +68,9 @@ returns c =
     let w6 = grow _ _ _ _ _ _ w5 (c .before .before .before .before .before .before .before .before .before .before .before .before .before .before .read-presence .ensures .1) in
     let w7 = grow _ _ _ _ _ _ w6 (c .before .before .copy-field .ensures .1) in
     let x4 = c .before .before .before .before .before .before .before .before .before .before .before .before .before .before .read-presence .ensures .0 _ in
-    let x3 = copied-then (listed I32) (λ _. none (map truth byte)) _ _ _ _ _ _ _ (c .before .before .before .before .before .before .before .before .before .before .before .before .before .before .before .before .before .copy-list2 .ensures .0) x4 in
-    let x2 = copied-then (one varintAt) (λ _. then (listed I32) (λ _. none (map truth byte))) _ _ _ _ _ _ _ (c .before .before .before .before .before .before .before .before .before .before .before .before .before .before .before .before .before .before .before .before .before .copy-number .ensures .0) x3 in
-    let x1 = copied-then (listed I32) (λ _. then (one varintAt) (λ _. then (listed I32) (λ _. none (map truth byte)))) _ _ _ _ _ _ _ (c .before .before .before .before .before .before .before .before .before .before .before .before .before .before .before .before .before .before .before .before .before .before .before .before .before .copy-list .ensures .0) x2 in
+    let x3 = copied-then (listed I32) (λ _. unput (mapped truth byte)) _ _ _ _ _ _ _ (c .before .before .before .before .before .before .before .before .before .before .before .before .before .before .before .before .before .copy-list2 .ensures .0) x4 in
+    let x2 = copied-then (asWord varintAt) (λ _. then (listed I32) (λ _. unput (mapped truth byte))) _ _ _ _ _ _ _ (c .before .before .before .before .before .before .before .before .before .before .before .before .before .before .before .before .before .before .before .before .before .copy-number .ensures .0) x3 in
+    let x1 = copied-then (listed I32) (λ _. then (asWord varintAt) (λ _. then (listed I32) (λ _. unput (mapped truth byte)))) _ _ _ _ _ _ _ (c .before .before .before .before .before .before .before .before .before .before .before .before .before .before .before .before .before .before .before .before .before .before .before .before .before .copy-list .ensures .0) x2 in
     let p = rw (c .before .before .before .before .before .before .before .before .before .before .put-word .ensures) at (c .before .before .before .before .before .before .put-word2 .ensures) in
     (old-row _ _ _ _ _ (c .before .before .before .before .before .before .before .before .before .before .before .before .before .before .before .before .before .before .before .before .before .before .before .before .before .before .before .before .before .before .args .at .pos) (c .before .before .before .before .before .before .before .before .before .before .before .before .before .before .before .before .before .before .before .before .before .before .before .before .before .before .before .before .before .before .args .at .word) _ _ _ (c .before .before .before .before .before .before .before .before .before .before .before .before .before .value-of .ensures) p (copied-as _ _ _ _ _ _ _ (field-if _ 1 varintAt) (c .before .before .copy-field .ensures .0)) x1, w7)
 

@@ -2,7 +2,7 @@
 use native.Mathlib.Omega.{arith}
 use Rattle.reading.specs.Numbers.{varintAt}
 use Rattle.format.specs.DecodeTypes.{flagsAt, byteIf}
-use Rattle.payloads.specs.Fields.{one, valueOf}
+use Rattle.payloads.specs.Fields.{asWord, valueOf}
 use Rattle.payloads.proofs.LawsFields.{then, copied-then}
 use Rattle.payloads.proofs.LawsTypes.{row-of, spare-tag, spare-room, tag-within, grow, within-most, pointer-says, pointerSteps, byte-told}
 use borrow.Author.Needs.{needs}
@@ -48,8 +48,8 @@ returns c =
     let w4 = grow _ _ _ _ _ _ w3 (c .before .before .copy-byte-if .ensures .1) in
     let f = valueOf (c .before .before .before .before .before .before .before .before .before .before .before .copy-flags .result) in
     let x3 = byte-told _ _ _ _ _ (c .before .before .before .before .value-of .ensures) (c .before .before .copy-byte-if .ensures .0) in
-    let x2 = copied-then (one varintAt) (λ _. one (byteIf f)) _ _ _ _ _ _ _ (c .before .before .before .before .before .before .before .copy-number .ensures .0) x3 in
-    let x1 = copied-then (one (flagsAt (c .before .before .before .before .before .before .before .before .before .before .before .before .before .before .before .before .before .before .before .args .class))) (λ flags. then (one varintAt) (λ _. one (byteIf flags))) _ _ _ _ _ _ _ (c .before .before .before .before .before .before .before .before .before .before .before .copy-flags .ensures .0) x2 in
+    let x2 = copied-then (asWord varintAt) (λ _. asWord (byteIf f)) _ _ _ _ _ _ _ (c .before .before .before .before .before .before .before .copy-number .ensures .0) x3 in
+    let x1 = copied-then (asWord (flagsAt (c .before .before .before .before .before .before .before .before .before .before .before .before .before .before .before .before .before .before .before .args .class))) (λ flags. then (asWord varintAt) (λ _. asWord (byteIf flags))) _ _ _ _ _ _ _ (c .before .before .before .before .before .before .before .before .before .before .before .copy-flags .ensures .0) x2 in
     (row-of _ (pointerSteps (c .before .before .before .before .before .before .before .before .before .before .before .before .before .before .before .before .before .before .before .args .class)) _ (pointer-says (c .before .before .before .before .before .before .before .before .before .before .before .before .before .before .before .before .before .before .before .args .class)) _ _ _ _ (c .before .before .before .before .before .before .before .before .before .before .before .before .before .before .before .before .before .before .before .args .at) _ _ (c .before .before .before .before .before .before .before .before .before .before .before .before .before .before .before .put-value .ensures .0) (c .before .before .before .before .before .before .before .before .before .before .before .before .before .before .before .put-value .ensures .1) x1, within-most _ _ _ _ _ _ (omega arith) w4)
 
 pub pointer-spec : {M : Type 1} → statement M

@@ -3,7 +3,7 @@ use native.Mathlib.Omega.{arith}
 use Rattle.reading.specs.Numbers.{varintAt}
 use Rattle.format.specs.DecodeTypes.{byteIf}
 use Rattle.payloads.specs.declared.fields.Number.the-variants.{I32}
-use Rattle.payloads.specs.Fields.{one, listed, valueOf}
+use Rattle.payloads.specs.Fields.{asWord, listed, valueOf}
 use Rattle.payloads.proofs.LawsFields.{then, copied-then}
 use Rattle.payloads.proofs.LawsTypes.{row-of, spare-tag, spare-room, tag-within, grow, within-most, strided-view-says, stridedViewSteps, byte-told}
 use borrow.Author.Needs.{needs}
@@ -79,11 +79,11 @@ returns c =
     let w7 = grow _ _ _ _ _ _ w6 (c .before .before .copy-byte-if .ensures .1) in
     let f = valueOf (c .before .before .before .before .before .before .before .before .before .before .before .before .before .before .before .before .before .before .before .before .before .before .before .copy-number .result) in
     let x6 = byte-told _ _ _ _ _ (c .before .before .before .before .value-of .ensures) (c .before .before .copy-byte-if .ensures .0) in
-    let x5 = copied-then (listed I32) (λ _. one (byteIf f)) _ _ _ _ _ _ _ (c .before .before .before .before .before .before .before .copy-list3 .ensures .0) x6 in
-    let x4 = copied-then (one varintAt) (λ _. then (listed I32) (λ _. one (byteIf f))) _ _ _ _ _ _ _ (c .before .before .before .before .before .before .before .before .before .before .before .copy-number2 .ensures .0) x5 in
-    let x3 = copied-then (listed I32) (λ _. then (one varintAt) (λ _. then (listed I32) (λ _. one (byteIf f)))) _ _ _ _ _ _ _ (c .before .before .before .before .before .before .before .before .before .before .before .before .before .before .before .copy-list2 .ensures .0) x4 in
-    let x2 = copied-then (listed I32) (λ _. then (listed I32) (λ _. then (one varintAt) (λ _. then (listed I32) (λ _. one (byteIf f))))) _ _ _ _ _ _ _ (c .before .before .before .before .before .before .before .before .before .before .before .before .before .before .before .before .before .before .before .copy-list .ensures .0) x3 in
-    let x1 = copied-then (one varintAt) (λ flags. then (listed I32) (λ _. then (listed I32) (λ _. then (one varintAt) (λ _. then (listed I32) (λ _. one (byteIf flags)))))) _ _ _ _ _ _ _ (c .before .before .before .before .before .before .before .before .before .before .before .before .before .before .before .before .before .before .before .before .before .before .before .copy-number .ensures .0) x2 in
+    let x5 = copied-then (listed I32) (λ _. asWord (byteIf f)) _ _ _ _ _ _ _ (c .before .before .before .before .before .before .before .copy-list3 .ensures .0) x6 in
+    let x4 = copied-then (asWord varintAt) (λ _. then (listed I32) (λ _. asWord (byteIf f))) _ _ _ _ _ _ _ (c .before .before .before .before .before .before .before .before .before .before .before .copy-number2 .ensures .0) x5 in
+    let x3 = copied-then (listed I32) (λ _. then (asWord varintAt) (λ _. then (listed I32) (λ _. asWord (byteIf f)))) _ _ _ _ _ _ _ (c .before .before .before .before .before .before .before .before .before .before .before .before .before .before .before .copy-list2 .ensures .0) x4 in
+    let x2 = copied-then (listed I32) (λ _. then (listed I32) (λ _. then (asWord varintAt) (λ _. then (listed I32) (λ _. asWord (byteIf f))))) _ _ _ _ _ _ _ (c .before .before .before .before .before .before .before .before .before .before .before .before .before .before .before .before .before .before .before .copy-list .ensures .0) x3 in
+    let x1 = copied-then (asWord varintAt) (λ flags. then (listed I32) (λ _. then (listed I32) (λ _. then (asWord varintAt) (λ _. then (listed I32) (λ _. asWord (byteIf flags)))))) _ _ _ _ _ _ _ (c .before .before .before .before .before .before .before .before .before .before .before .before .before .before .before .before .before .before .before .before .before .before .before .copy-number .ensures .0) x2 in
     (row-of _ stridedViewSteps _ strided-view-says _ _ _ _ (c .before .before .before .before .before .before .before .before .before .before .before .before .before .before .before .before .before .before .before .before .before .before .before .before .before .before .before .before .before .before .before .args .at) _ _ (c .before .before .before .before .before .before .before .before .before .before .before .before .before .before .before .before .before .before .before .before .before .before .before .before .before .before .before .put-value .ensures .0) (c .before .before .before .before .before .before .before .before .before .before .before .before .before .before .before .before .before .before .before .before .before .before .before .before .before .before .before .put-value .ensures .1) x1, within-most _ _ _ _ _ _ (omega arith) w7)
 
 pub strided-view-spec : {M : Type 1} → statement M

@@ -3,7 +3,7 @@ use native.Mathlib.Omega.{arith}
 use Rattle.reading.specs.Numbers.{varintAt}
 use Rattle.format.specs.DecodeTypes.{flagsAt, byteIf}
 use Rattle.payloads.specs.declared.fields.Number.the-variants.{I64}
-use Rattle.payloads.specs.Fields.{one, listed, valueOf}
+use Rattle.payloads.specs.Fields.{asWord, listed, valueOf}
 use Rattle.payloads.proofs.LawsFields.{then, copied-then}
 use Rattle.payloads.proofs.LawsTypes.{row-of, spare-tag, spare-room, tag-within, grow, within-most, tensor-view-says, tensorViewSteps, byte-told}
 use borrow.Author.Needs.{needs}
@@ -68,10 +68,10 @@ returns c =
     let w6 = grow _ _ _ _ _ _ w5 (c .before .before .copy-byte-if .ensures .1) in
     let f = valueOf (c .before .before .before .before .before .before .before .before .before .before .before .before .before .before .before .before .before .before .before .copy-flags .result) in
     let x5 = byte-told _ _ _ _ _ (c .before .before .before .before .value-of .ensures) (c .before .before .copy-byte-if .ensures .0) in
-    let x4 = copied-then (listed I64) (λ _. one (byteIf f)) _ _ _ _ _ _ _ (c .before .before .before .before .before .before .before .copy-list2 .ensures .0) x5 in
-    let x3 = copied-then (listed I64) (λ _. then (listed I64) (λ _. one (byteIf f))) _ _ _ _ _ _ _ (c .before .before .before .before .before .before .before .before .before .before .before .copy-list .ensures .0) x4 in
-    let x2 = copied-then (one varintAt) (λ _. then (listed I64) (λ _. then (listed I64) (λ _. one (byteIf f)))) _ _ _ _ _ _ _ (c .before .before .before .before .before .before .before .before .before .before .before .before .before .before .before .copy-number .ensures .0) x3 in
-    let x1 = copied-then (one (flagsAt (c .before .before .before .before .before .before .before .before .before .before .before .before .before .before .before .before .before .before .before .before .before .before .before .before .before .before .before .args .class))) (λ flags. then (one varintAt) (λ _. then (listed I64) (λ _. then (listed I64) (λ _. one (byteIf flags))))) _ _ _ _ _ _ _ (c .before .before .before .before .before .before .before .before .before .before .before .before .before .before .before .before .before .before .before .copy-flags .ensures .0) x2 in
+    let x4 = copied-then (listed I64) (λ _. asWord (byteIf f)) _ _ _ _ _ _ _ (c .before .before .before .before .before .before .before .copy-list2 .ensures .0) x5 in
+    let x3 = copied-then (listed I64) (λ _. then (listed I64) (λ _. asWord (byteIf f))) _ _ _ _ _ _ _ (c .before .before .before .before .before .before .before .before .before .before .before .copy-list .ensures .0) x4 in
+    let x2 = copied-then (asWord varintAt) (λ _. then (listed I64) (λ _. then (listed I64) (λ _. asWord (byteIf f)))) _ _ _ _ _ _ _ (c .before .before .before .before .before .before .before .before .before .before .before .before .before .before .before .copy-number .ensures .0) x3 in
+    let x1 = copied-then (asWord (flagsAt (c .before .before .before .before .before .before .before .before .before .before .before .before .before .before .before .before .before .before .before .before .before .before .before .before .before .before .before .args .class))) (λ flags. then (asWord varintAt) (λ _. then (listed I64) (λ _. then (listed I64) (λ _. asWord (byteIf flags))))) _ _ _ _ _ _ _ (c .before .before .before .before .before .before .before .before .before .before .before .before .before .before .before .before .before .before .before .copy-flags .ensures .0) x2 in
     (row-of _ (tensorViewSteps (c .before .before .before .before .before .before .before .before .before .before .before .before .before .before .before .before .before .before .before .before .before .before .before .before .before .before .before .args .class)) _ (tensor-view-says (c .before .before .before .before .before .before .before .before .before .before .before .before .before .before .before .before .before .before .before .before .before .before .before .before .before .before .before .args .class)) _ _ _ _ (c .before .before .before .before .before .before .before .before .before .before .before .before .before .before .before .before .before .before .before .before .before .before .before .before .before .before .before .args .at) _ _ (c .before .before .before .before .before .before .before .before .before .before .before .before .before .before .before .before .before .before .before .before .before .before .before .put-value .ensures .0) (c .before .before .before .before .before .before .before .before .before .before .before .before .before .before .before .before .before .before .before .before .before .before .before .put-value .ensures .1) x1, within-most _ _ _ _ _ _ (omega arith) w6)
 
 pub tensor-view-spec : {M : Type 1} → statement M

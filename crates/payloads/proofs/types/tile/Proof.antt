@@ -2,7 +2,7 @@
 use native.Mathlib.Omega.{arith}
 use Rattle.reading.specs.Numbers.{varintAt}
 use Rattle.payloads.specs.declared.fields.Number.the-variants.{I64}
-use Rattle.payloads.specs.Fields.{one, listed}
+use Rattle.payloads.specs.Fields.{asWord, listed}
 use Rattle.payloads.proofs.LawsFields.{copied-then}
 use Rattle.payloads.proofs.LawsTypes.{row-of, spare-tag, spare-room, tag-within, grow, within-most, tile-says, tileSteps}
 use borrow.Author.Needs.{needs}
@@ -36,7 +36,7 @@ returns c =
     let w2 = grow _ _ _ _ _ _ w1 (c .before .before .before .before .before .before .copy-number .ensures .1) in
     let w3 = grow _ _ _ _ _ _ w2 (c .before .before .copy-list .ensures .1) in
     let x2 = c .before .before .copy-list .ensures .0 in
-    let x1 = copied-then (one varintAt) (λ _. listed I64) _ _ _ _ _ _ _ (c .before .before .before .before .before .before .copy-number .ensures .0) x2 in
+    let x1 = copied-then (asWord varintAt) (λ _. listed I64) _ _ _ _ _ _ _ (c .before .before .before .before .before .before .copy-number .ensures .0) x2 in
     (row-of _ tileSteps _ tile-says _ _ _ _ (c .before .before .before .before .before .before .before .before .before .before .before .before .before .before .args .at) _ _ (c .before .before .before .before .before .before .before .before .before .before .put-value .ensures .0) (c .before .before .before .before .before .before .before .before .before .before .put-value .ensures .1) x1, within-most _ _ _ _ _ _ (omega arith) w3)
 
 pub tile-spec : {M : Type 1} → statement M

@@ -41,8 +41,10 @@ pub fn counted(data: &[u8], at: u64, width: u64) -> Read {
     Ok((count, next + size))
 }
 
-/// Padding to `alignment`: how many bytes it is and the place after it.
+/// Padding to `alignment`: how many bytes it is and the place after it. A place past the data is refused even where
+/// nothing is due.
 pub fn padding(data: &[u8], at: u64, alignment: u64) -> Read {
+    bytes(data, at, 0)?;
     let size = if alignment < 2 { 0 } else { (alignment - at % alignment) % alignment };
     for i in 0..size {
         if bytes(data, at.saturating_add(i), 1)?[0] != 0xCB {
