@@ -390,8 +390,9 @@ TIKOMUCI_CALL tikomuci_answer tikomuci_section(const uint8_t *file, size_t file_
 TIKOMUCI_CALL tikomuci_answer tikomuci_image(const uint8_t *sheet, size_t sheet_len) TIKOMUCI_NOEXCEPT;
 
 /*
- * The image of a sheet and a pool, with the answer of tikomuci_image. A refused call changes nothing, and an accepted
- * one changes no byte of the output behind the image.
+ * The image of a sheet and a pool. Lent a pool of as many bytes as word 4 says, within its limit, and an output with
+ * room, it answers what tikomuci_image answers; a pool of another length is 12, and one over its limit 1. A refused call
+ * changes nothing, and an accepted one changes no byte of the output behind the image.
  */
 TIKOMUCI_CALL tikomuci_answer tikomuci_write(const uint8_t *sheet, size_t sheet_len, const uint8_t *pool,
                                              size_t pool_len, uint8_t *out, size_t out_len) TIKOMUCI_NOEXCEPT;
