@@ -36,7 +36,7 @@ module _ {file other : List ℕ} (x : SameToEnd file other) where
       record {
         header = x .container .header;
         walked = x .container .walked;
-        after = x .otherwise;
+        after = x .behind;
         whole = x .whole;
         headed = x .container .headed;
         laid = x .container .laid;

@@ -14,7 +14,7 @@ pub record SameToEnd (file other : List ℕ) : Type 0 where
   pub version : Version
   pub sections : List Section
   pub container : Container file version sections
-  pub otherwise : List ℕ
-  pub whole : other ≡ container .header ++ (container .walked ++ otherwise)
+  pub behind : List ℕ
+  pub whole : other ≡ container .header ++ (container .walked ++ behind)
   pub within : length file ≤ mostBytes
   pub other-within : length other ≤ mostBytes
