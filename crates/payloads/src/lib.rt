@@ -1,10 +1,9 @@
-// decoder.rs: the readers of the seven payloads, and one pass over a file that measures and fills. What can be called
-// from outside is what the crate `decoder` stands on: the pass, and the places of rows.
+// decoder.rs: the readers of the payloads that fill stores, and one pass over a file that measures and fills. What can be
+// called from outside is the pass.
 mod answers;
 mod debug;
 mod fields;
 mod pass;
-pub mod places;
 mod rows;
 mod tables;
 mod types;
