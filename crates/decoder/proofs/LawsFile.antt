@@ -1,15 +1,16 @@
 -- Measuring and reading keep their promises, of any lists, and these allow one result only. Assumes nothing.
 use mathlib.Core.Path.{_≡_, refl, sym, ap, _∙_}
-use Prim.Native.Nat.{ℕ, suc, _+_, _*_, _/_, _^_, _≤_, _<_}
+use Prim.Native.Nat.{ℕ, _+_, _*_, _/_, _≤_, _<_}
 use native.Mathlib.Omega.{arith}
 use native.Mathlib.Decide.{decLe}
 use mathlib.Core.Logic.{_⊎_, inl, inr}
-use mathlib.Core.List.{List, [], _∷_, _++_}
+use mathlib.Core.List.{List, _++_}
 use lib.ListN.{length}
 use Rattle.exact.specs.Tiling.{join}
 use Rattle.exact.proofs.LawsChoice.{choose-yes, choose-no}
 use Rattle.encoding.specs.Out.{put, flat}
 use Rattle.enums.specs.Refusals as refusals
+use Rattle.encoding.proofs.LawsOut.{none-before}
 use Rattle.reading.proofs.LawsShown.{only}
 use Rattle.format.specs.Tables.{Version, Tables}
 use Rattle.format.specs.Sections.{Section}
@@ -33,10 +34,6 @@ map-refused : {A B : Type 0} (f : A → B) (r : Read A) (c n i : ℕ) → mapRea
 unfolding mapRead
 map-refused f (accepted v) c n i e = absurd (refused-not-accepted (sym e))
 map-refused f (refused d m j) c n i e = cc
-
-none-before : (a s : List ℕ) → length a ≡ 0 → a ++ s ≡ s
-none-before [] s n = refl
-none-before (b ∷ a) s n = absurd (omega arith)
 
 -- An accepted file is within the limit.
 decode-within : (l : List ℕ) (t : Tables) → decode l ≡ accepted t → length l ≤ mostBytes

@@ -5,7 +5,7 @@ use Prim.Native.Nat.{ℕ, _+_, _-_, _≤_, _<_}
 use native.Mathlib.Omega.{arith}
 use native.Mathlib.Decide.{decLt}
 use mathlib.Core.Bool.{true, false, true≢false}
-use mathlib.Core.Option.{Option, none, some}
+use mathlib.Core.Option.{Option, none, some, Option·none-ne-some, Option·some-injective}
 use mathlib.Core.List.{List, []}
 use lib.ListN.{length, take, drop, getD}
 use Rattle.exact.specs.Got.{got}
@@ -52,12 +52,6 @@ use Rattle.decoder.specs.declared.views.RowKind.{RowKind}
 use Rattle.decoder.specs.declared.views.RowKind.the-variants as kind
 use Rattle.decoder.specs.Views.{rowsOf, idOf, FindsRow, Accepted, notThere, RowPost}
 
-none-not-some : {A : Type 0} {x : A} → none ≡ some x → ⊥
-none-not-some e = let z : _≡_ {A = ℕ} 0 1 = cc in omega arith
-
-some-value : {A : Type 0} {x y : A} → some x ≡ some y → x ≡ y
-some-value e = cc
-
 -- The rows of a kind that the section o gives, if it is there: they are those that are found in its payload.
 record RowsIn (k : RowKind) (o : Option Section) (v : Rows (List ℕ)) : Type 0 where
   absent : o ≡ none → length (v .values) ≡ 0
@@ -73,13 +67,13 @@ module _ {A : Type 0} (f : A → Rows (List ℕ)) (p : ℕ → Parser A) (e v : 
   rows-in none (j, h) =
       record {
         absent = λ q. ap (λ u. length (f u .values)) (sym (got-value h)) ∙ none-of;
-        present = λ s q n r g. absurd (none-not-some q);
+        present = λ s q n r g. absurd (Option·none-ne-some _ q);
       }
   rows-in (some t) (j, h) =
       record {
-        absent = λ q. absurd (none-not-some (sym q));
+        absent = λ q. absurd (Option·none-ne-some _ (sym q));
         present = λ s q n r g. let (i, w) = raised-inv (t .start) (p (t .start) (t .payload) 0) v j h in
-            let m = subst (λ u. p (u .start) (u .payload) 0 ≡ got v i) (some-value q) w in
+            let m = subst (λ u. p (u .start) (u .payload) 0 ≡ got v i) (Option·some-injective _ _ q) w in
             finds (s .payload) n r g (s .start) v i m;
       }
 
@@ -112,8 +106,8 @@ held-none (some s) p e t = absurd (true≢false (sym (ap (λ z. z .presence) e) 
 
 -- The section that the reader finds counts.
 counted : (id : ℕ) (ss : List Section) (o : Option Section) (s : Section) → Counts id ss o → o ≡ some s → Last id ss s
-counted id ss o s (none-counts m) e = absurd (none-not-some e)
-counted id ss o s (last-counts {s = t} r) e = subst (Last id ss) (some-value e) r
+counted id ss o s (none-counts m) e = absurd (Option·none-ne-some _ e)
+counted id ss o s (last-counts {s = t} r) e = subst (Last id ss) (Option·some-injective _ _ e) r
 
 -- A place as the answer of a view.
 abbrev spanIn : table.Place → Read Span

@@ -1,5 +1,5 @@
 -- What `put` leaves, byte by byte; what a writer answers; no two results of one writer differ. Assumes nothing.
-use mathlib.Core.Path.{_≡_, sym, ap, _∙_, subst}
+use mathlib.Core.Path.{_≡_, refl, sym, ap, _∙_, subst}
 use mathlib.Core.Logic.{_⊎_, inl, inr}
 use mathlib.Core.List.{List, [], _∷_, _++_, append-assoc}
 use Prim.Native.Nat.{ℕ, suc, _+_, _-_, _/_, _%_, _^_, _≤_, _<_, max}
@@ -197,3 +197,8 @@ pub puts-number : {n at required next q : ℕ} {out out' : List ℕ} (w v : ℕ)
 puts-number {at = at} {out' = out'} w v h p =
     let e : take w (drop at out') ≡ bytesOf w v = rw length-bytesOf at (puts-there p .0) in
     ap little e ∙ little-bytesOf w v h
+
+-- A part of no bytes in front changes nothing.
+pub none-before : (a s : List ℕ) → length a ≡ 0 → a ++ s ≡ s
+none-before [] s n = refl
+none-before (b ∷ a) s n = absurd (omega arith)

@@ -22,14 +22,15 @@ use Rattle.exact.specs.Tiling.{cut, endOf}
 use Rattle.exact.specs.Entries.{raised, cutLeast, entry, entriesOf, rows, entries}
 use Rattle.exact.proofs.LawsExact.{stop-not-got, got-value, got-next}
 use Rattle.exact.proofs.LawsChoice.{choose-yes, choose-no}
-use Rattle.exact.proofs.LawsSequence.{follow-inv, bind-got, bind-stop}
+use Rattle.exact.proofs.LawsSequence.{follow-inv, follow-follow}
+use Rattle.exact.proofs.LawsFixed.{length-nums}
 use Rattle.exact.proofs.LawsSteps.{fixed-at, fixed-end}
 use Rattle.exact.proofs.LawsTiling.{cut-is}
 use Rattle.enums.specs.Container.{P}
 use Rattle.enums.specs.Refusals as refusals
 use Rattle.reading.specs.Numbers.{varintAt, paddingAt, placed}
 use Rattle.reading.proofs.LawsNumbers.{varint-in, padding-exact}
-use Rattle.reading.proofs.LawsPlaced.{placed-got, placed-stop, length-nums, times-got}
+use Rattle.reading.proofs.LawsPlaced.{placed-got, times-got}
 use Rattle.reading.proofs.LawsInside.{exact-inside}
 use Rattle.format.specs.Strings.{noRows}
 use Rattle.format.specs.DecodeTables.{shape, paddedAt, offsetTableAt}
@@ -137,13 +138,9 @@ module _ {A : Type 0} (p : Parser A) (w a o : ℕ) (l : List ℕ) where
       follow (choose d noStarts (behindCount w a n) l i) (λ x j. rows o refusals.bounds 0 p (x .1) l j)
   unfolding choose upto pure follow rows entriesOf noStarts entries bind paddingAt
   offset-count n i (yes z) = refl
-  offset-count n i (no z) = follow-pad (pad refusals.unpadded P a l i) ∙ sym (behind-then w a l (λ ss j. rows o refusals.bounds 0 p ss l j) n i)
-    where
-      follow-pad : (g : Got (Unit {0})) →
-          follow g (λ u j. follow (times n (fixed w) l j) (λ ss k. rows o refusals.bounds 0 p ss l k)) ≡
-          follow (follow g (λ u j. times n (fixed w) l j)) (λ ss k. rows o refusals.bounds 0 p ss l k)
-      follow-pad (got u j) = refl
-      follow-pad (stop c k) = refl
+  offset-count n i (no z) =
+      sym (behind-then w a l (λ ss j. rows o refusals.bounds 0 p ss l j) n i ∙
+      follow-follow (pad refusals.unpadded P a l i) (λ u j. times n (fixed w) l j) (λ ss j. rows o refusals.bounds 0 p ss l j))
 
   offset-starts : (i : ℕ) → offsetTableAt w a o p l i ≡ follow (startsAt w a l i) (λ x j. rows o refusals.bounds 0 p (x .1) l j)
   unfolding offsetTableAt startsAt bind follow

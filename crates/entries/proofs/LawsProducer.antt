@@ -6,33 +6,23 @@ use native.Mathlib.Decide.{decLt}
 use mathlib.Core.Option.{some}
 use mathlib.Core.List.{List}
 use lib.ListN.{length}
-use Rattle.exact.specs.Got.{Got, got, stop, follow}
+use Rattle.exact.specs.Got.{got, stop, follow}
 use Rattle.exact.specs.Exact.{Parser}
 use Rattle.exact.specs.Basic.{pure, fail}
 use Rattle.exact.specs.Sequence.{bind, map}
 use Rattle.exact.specs.Choice.{such}
 use Rattle.exact.specs.Padding.{broke, blamed}
 use Rattle.exact.specs.Upto.{upto}
-use Rattle.exact.proofs.LawsExact.{stop-not-got}
 use Rattle.exact.proofs.LawsChoice.{choose-yes, choose-no}
 use Rattle.exact.proofs.LawsSequence.{bind-got, bind-stop}
 use Rattle.enums.specs.Refusals as refusals
-use Rattle.reading.specs.Numbers.{varintAt, digits}
+use Rattle.reading.specs.Numbers.{varintAt}
+use Rattle.reading.proofs.LawsInside.{varint-place}
 use Rattle.format.specs.DecodeTables.{producerAt}
 
 -- The index that has to be below n.
 abbrev index : ℕ → Parser ℕ
 index n = such refusals.noProducer (λ k. decLt k n) varintAt
-
-stop-at : {A : Type 0} (g : Got A) (i c k : ℕ) → broke g i ≡ stop c k → k ≡ i
-unfolding broke
-stop-at (got v j) i c k e = absurd (stop-not-got (sym e))
-stop-at (stop d m) i c k e = cc
-
--- A varint that is refused is refused at its first byte.
-varint-stop : (l : List ℕ) (i c k : ℕ) → varintAt l i ≡ stop c k → k ≡ i
-unfolding varintAt blamed
-varint-stop l i c k e = stop-at (digits 9 l i) i c k e
 
 module _ (n : ℕ) (l : List ℕ) where
   index-in : (v j : ℕ) → varintAt l 0 ≡ got v j → v < n → index n l 0 ≡ got v j
@@ -50,7 +40,7 @@ module _ (n : ℕ) (l : List ℕ) where
   -- The index is refused ..
   pub producer-stop : (c k : ℕ) → varintAt l 0 ≡ stop c k → stop c k ≡ producerAt n l 0
   unfolding producerAt upto map blamed broke bind follow
-  producer-stop c k e = rw (index-stop c k e, varint-stop l 0 c k e)
+  producer-stop c k e = rw (index-stop c k e, varint-place l 0 c k e)
 
   -- .. inside ..
   pub producer-in : (v j : ℕ) → varintAt l 0 ≡ got v j → v < n → got (some v) (length l) ≡ producerAt n l 0

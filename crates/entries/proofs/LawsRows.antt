@@ -19,12 +19,13 @@ use Rattle.exact.proofs.LawsChoice.{choose-yes, choose-no}
 use Rattle.enums.specs.Container.{hintsFlag}
 use Rattle.enums.specs.Refusals as refusals
 use Rattle.enums.specs.declared.VersionClass.{VersionClass}
+use Rattle.enums.specs.Version.{since13·3}
 use Rattle.encoding.proofs.LawsVarint.{digits-some}
 use Rattle.reading.specs.Numbers.{varintAt, placed}
 use Rattle.reading.proofs.LawsPlaced.{placed-got, placed-stop}
 use Rattle.reading.proofs.LawsShown.{told}
 use Rattle.format.specs.Tables.{Global, Function}
-use Rattle.format.specs.Items.{truth, since13·3}
+use Rattle.format.specs.Items.{truth}
 use Rattle.format.specs.Globals.{GlobalRow, global}
 use Rattle.format.specs.Functions.{Located, FunctionRow, function}
 use Rattle.format.specs.DecodeTables.{fieldAt}
@@ -32,15 +33,6 @@ use Rattle.format.specs.DecodeRows.{globalAt, bodyAt, functionAt}
 use Rattle.format.proofs.LawsRows.{global-exact, function-exact}
 use Rattle.entries.specs.Rows.{linkageAt, gotFunction, Gives}
 use Rattle.entries.specs.declared.rows.FuncRead.{FuncRead}
-
--- A flag is 0 or 1.
-pub truth-zero : (v : ℕ) → v ≡ 0 → 0 ≡ truth v
-unfolding truth
-truth-zero v h = sym (choose-yes (ℕ-discrete v 0) 0 1 h)
-
-pub truth-more : (v : ℕ) → ¬ (v ≡ 0) → 1 ≡ truth v
-unfolding truth
-truth-more v h = sym (choose-no (ℕ-discrete v 0) 0 1 h)
 
 -- Visibility and flag below 13.3 ..
 module _ (c : VersionClass) (l : List ℕ) (i : ℕ) where

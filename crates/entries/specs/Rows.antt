@@ -11,9 +11,10 @@ use Rattle.exact.specs.Exact.{Parser}
 use Rattle.exact.specs.Basic.{byte}
 use Rattle.exact.specs.Sequence.{bind, map}
 use Rattle.enums.specs.declared.VersionClass.{VersionClass}
+use Rattle.enums.specs.Version.{since13·3}
 use Rattle.reading.specs.Numbers.{varintAt}
 use Rattle.format.specs.Tables.{Global, Function}
-use Rattle.format.specs.Items.{truth, since13·3}
+use Rattle.format.specs.Items.{truth}
 use Rattle.format.specs.Functions.{Located}
 use Rattle.format.specs.DecodeTables.{fieldAt}
 use Rattle.entries.specs.declared.rows.LinkageRead.{LinkageRead}

@@ -1,6 +1,5 @@
 // The rows of Global and Func, and Producer. Places count from the payload's first byte.
 ghost use mathlib.Core.Path.{_≡_};
-ghost use Rattle.format.specs.Items.{since13·3};
 ghost use Rattle.format.specs.Items as items;
 ghost use Rattle.format.specs.DecodeTables.{producerAt};
 ghost use Rattle.format.specs.DecodeRows.{globalAt, bodyAt, functionAt};
@@ -62,17 +61,6 @@ pub enum ProducerRead {
     Stop(Refused),
 }
 
-// Whether a version class is from 13.3 on.
-fn from_13_3(class: VersionClass) -> bool
-    ensures { λ r. ⌜ r ≡ since13·3 «class» ⌝ }
-{
-    match class {
-        VersionClass::Below13_3 => false,
-        VersionClass::From13_3 => true,
-        VersionClass::From13_4 => true,
-    }
-}
-
 // Nonzero means 1.
 fn truth(v: u64) -> u64
     ensures { λ r. ⌜ r ≡ items.truth v ⌝ }
@@ -84,7 +72,7 @@ fn truth(v: u64) -> u64
 fn read_linkage(payload: &[u8], class: VersionClass, reader: Reader) -> LinkageRead
     ensures { λ r. ⌜ gotLinkage r ≡ linkageAt «class» (now (payload .entry)) (reader .pos) ⌝ }
 {
-    if from_13_3(class) {
+    if class.from_13_3() {
         match reader.read_byte(payload) {
             ByteRead::Stop(x) => LinkageRead::Stop(x),
             ByteRead::Got(visibility, r) => match r.read_varint(payload) {

@@ -1,1 +1,2 @@
 pub mod LawsVersion
+pub mod LawsDebug

@@ -1,4 +1,5 @@
--- The tags of debug attributes, each named once (enums.rs, `DebugTag`).
+-- The tags of debug attributes, each named once (enums.rs, `DebugTag`), and the varints that each asks for (document 01,
+-- "The container").
 use Prim.Native.Nat.{ℕ}
 use mathlib.Core.List.{List, [], _∷_}
 
@@ -27,3 +28,7 @@ tagCallSite = 6
 abbrev pub debugTags : List ℕ
 debugTags =
     tagUnknown ∷ tagDICompileUnit ∷ tagDIFile ∷ tagDILexicalBlock ∷ tagDILoc ∷ tagDISubprogram ∷ tagCallSite ∷ []
+
+-- The number of varints behind each tag, in the tags' order. Behind a number that is no tag there are none.
+abbrev pub fieldCounts : List ℕ
+fieldCounts = 0 ∷ 1 ∷ 2 ∷ 4 ∷ 4 ∷ 6 ∷ 2 ∷ []

@@ -14,6 +14,17 @@ atLeast major minor a b = cond (ltb major a) false (cond (ltb a major) true (leb
 unfoldable pub classOf : ℕ → ℕ → VersionClass
 classOf major minor = cond (atLeast major minor 13 4) From13_4 (cond (atLeast major minor 13 3) From13_3 Below13_3)
 
+-- The classes from 13.3 on, and from 13.4 on.
+abbrev pub since13·3 : VersionClass → Bool
+since13·3 Below13_3 = false
+since13·3 From13_3 = true
+since13·3 From13_4 = true
+
+abbrev pub since13·4 : VersionClass → Bool
+since13·4 Below13_3 = false
+since13·4 From13_3 = false
+since13·4 From13_4 = true
+
 -- The order of versions: the major number decides, then the minor one, then the tag.
 pub data NotBefore (major minor tag a b c : ℕ) : Type 0 where
   later-major : a < major → NotBefore major minor tag a b c

@@ -1,11 +1,12 @@
 // The numbers of enums.rs, and document 01's refusal numbers and stages, as constants of their types. The functions
 // `all` prove that they are the numbers that specs/ names, in that order.
 ghost use mathlib.Core.Path.{_≡_};
+ghost use lib.ListN.{getD};
 ghost use Rattle.enums.specs.Container as container;
 ghost use Rattle.enums.specs.Types as types;
 ghost use Rattle.enums.specs.Debug as debug;
 ghost use Rattle.enums.specs.Refusals as refusals;
-ghost use Rattle.enums.specs.Version.{classOf, atLeast};
+ghost use Rattle.enums.specs.Version.{classOf, atLeast, since13·3, since13·4};
 
 // The byte that fills alignment padding.
 pub const ALIGNMENT_BYTE: u8 = 0xCB;
@@ -172,6 +173,9 @@ impl TypeTag {
     }
 }
 
+// The number of varints behind each debug tag, in the tags' order.
+const FIELD_COUNTS: [u64; 7] = [0, 1, 2, 4, 4, 6, 2];
+
 // The tag that opens a debug attribute.
 pub struct DebugTag(pub u8);
 
@@ -203,6 +207,17 @@ impl DebugTag {
             DebugTag::DI_SUBPROGRAM,
             DebugTag::CALL_SITE,
         ]
+    }
+
+    // How many varints stand behind a tag: so many are read and written, and the sheet's other fields are 0. None behind
+    // a tag that is not known.
+    pub fn field_count(tag: u64) -> u64
+        ensures { λ r. ⌜ r ≡ getD debug.fieldCounts tag 0 ⌝ }
+    {
+        if tag < 7 {
+            return FIELD_COUNTS[tag as usize];
+        }
+        0
     }
 }
 
@@ -325,6 +340,30 @@ pub enum VersionClass {
     Below13_3,
     From13_3,
     From13_4,
+}
+
+impl VersionClass {
+    // Whether versions of this class are 13.3 or later.
+    pub fn from_13_3(self) -> bool
+        ensures { λ r. ⌜ r ≡ since13·3 self ⌝ }
+    {
+        match self {
+            VersionClass::Below13_3 => false,
+            VersionClass::From13_3 => true,
+            VersionClass::From13_4 => true,
+        }
+    }
+
+    // Whether they are 13.4 or later.
+    pub fn from_13_4(self) -> bool
+        ensures { λ r. ⌜ r ≡ since13·4 self ⌝ }
+    {
+        match self {
+            VersionClass::Below13_3 => false,
+            VersionClass::From13_3 => false,
+            VersionClass::From13_4 => true,
+        }
+    }
 }
 
 impl BytecodeVersion {

@@ -4,7 +4,7 @@ use Prim.Native.Nat.{ℕ, suc, _+_, _≤_}
 use native.Mathlib.Nat.{add-assoc}
 use native.Mathlib.Omega.{arith}
 use native.Mathlib.Decide.{decLe}
-use mathlib.Core.Option.{Option, none, some}
+use mathlib.Core.Option.{Option, none, some, Option·none-ne-some}
 use mathlib.Core.List.{List, [], _∷_, _++_, append-assoc, append-nil}
 use lib.ListN.{length, drop, replicate, length-append}
 use Rattle.exact.specs.Got.{Got, got, stop, follow}
@@ -24,6 +24,7 @@ use Rattle.exact.proofs.LawsRepeat.{times-exact, many-length}
 use Rattle.exact.proofs.LawsFixed.{fixed-exact}
 use Rattle.exact.proofs.LawsPadding.{pad-exact}
 use Rattle.exact.proofs.LawsTiling.{Cut, cut-inv, cut-seam, end-of, tiled-cons, length-sums}
+use Rattle.exact.specs.Upto.{Whole, whole-of}
 
 -- What was raised was read.
 pub raised-inv : {A : Type 0} (n : ℕ) (g : Got A) (v : A) (j : ℕ) → raised n g ≡ got v j → (k : ℕ) × (g ≡ got v k)
@@ -31,16 +32,13 @@ unfolding raised
 raised-inv n (got w k) v j e = (k, ap (λ x. got x k) (got-value e))
 raised-inv n (stop c k) v j e = absurd (stop-not-got e)
 
-none-not-some : {B : Type 0} {x : B} → none ≡ some x → ⊥
-none-not-some e = let z : _≡_ {A = ℕ} 0 1 = cc in omega arith
-
 cut-least-inv : (m s e : ℕ) (d x : List ℕ) → cutLeast m s e d ≡ some x → Cut s e d x
 unfolding cutLeast choose
 cut-least-inv m s e d x = go (decLe (s + m) e)
   where
     go : (h : Dec (s + m ≤ e)) → choose h (cut s e d) none ≡ some x → Cut s e d x
     go (yes h) y = cut-inv s e d x y
-    go (no h) y = absurd (none-not-some y)
+    go (no h) y = absurd (Option·none-ne-some _ y)
 
 cut-least-seam : (m : ℕ) (g e r : List ℕ) → m ≤ length e → cutLeast m (length g) (length (g ++ e)) (g ++ e ++ r) ≡ some e
 unfolding cutLeast
@@ -52,6 +50,11 @@ cut-least-seam m g e r h =
 pub each-length : {A : Type 0} {R : Lang A} (es : List (List ℕ)) (vs : List A) → Each R es vs → length es ≡ length vs
 each-length es vs none-left = refl
 each-length es vs (entry-of {es = fs} {vs = ws} r t) = ap suc (each-length fs ws t)
+
+-- Entries that stand for themselves are the values.
+pub whole-same : (es vs : List (List ℕ)) → Each Whole es vs → es ≡ vs
+whole-same es vs none-left = refl
+whole-same es vs (entry-of {e = e} {es = fs} {vs = ws} whole-of t) = ap (λ x. e ∷ x) (whole-same fs ws t)
 
 -- What the starts cut out of the data, each read.
 pub record Cuts {A : Type 0} (o : ℕ) (R : Lang A) (ss : List ℕ) (i : ℕ) (d : List ℕ) (v : Rows A) : Type 0 where

@@ -4,7 +4,7 @@ use mathlib.Core.Path.{_≡_, refl, sym, ap, _∙_, subst₂}
 use mathlib.Core.Logic.{_↔_}
 use Prim.Native.Nat.{ℕ, _+_}
 use native.Mathlib.Omega.{arith}
-use mathlib.Core.List.{List, _++_, append-nil}
+use mathlib.Core.List.{List, _++_}
 use lib.ListN.{length, take, drop}
 use lib.Seq.{drop-drop, drop-append-seam, take-at}
 use Rattle.exact.specs.Got.{Got, got, stop}
@@ -25,6 +25,10 @@ got-value e = cc
 -- Equal answers have equal next places.
 pub got-next : {A : Type 0} {v w : A} {j k : ℕ} → got v j ≡ got w k → j ≡ k
 got-next e = cc
+
+-- Equal refusals name equal places.
+pub stop-place : {A : Type 0} {c d k m : ℕ} → _≡_ {A = Got A} (stop c k) (stop d m) → k ≡ m
+stop-place e = cc
 
 -- What was read stays so under an equal answer.
 pub reads-as : {A : Type 0} {R : Lang A} {l : List ℕ} {i : ℕ} {v w : A} {j k : ℕ} → Reads R l i v j →

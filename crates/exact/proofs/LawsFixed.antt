@@ -1,16 +1,17 @@
 -- Runs of bytes and numbers of a fixed width are read exactly; little-endian facts, once over the width. Assumes nothing.
-use mathlib.Core.Path.{_≡_, refl, sym, ap, ap₂, _∙_}
-use Prim.Native.Nat.{ℕ, zero, suc, _+_, _*_, _/_, _%_, _^_, _≤_, _<_}
-use native.Mathlib.Nat.{pow-suc, mod-lt}
+use mathlib.Core.Path.{_≡_, refl, sym, ap, _∙_, subst}
+use Prim.Native.Nat.{ℕ, zero, suc, _+_, _*_, _/_, _^_, _≤_, _<_}
+use native.Mathlib.Nat.{pow-suc}
 use native.Mathlib.Omega.{arith}
 use native.Mathlib.Decide.{decLe}
-use mathlib.Core.List.{List, [], _∷_, _++_}
+use mathlib.Core.List.{List, _++_}
 use lib.ListN.{length, take, drop, length-append, take-append-drop}
 use lib.Seq.{drop-drop, take-append-seam, length-take-le}
 use Rattle.exact.specs.Got.{got, stop, ended}
 use Rattle.exact.specs.Exact.{Reads, Exact}
+use Rattle.exact.specs.Sequence.{of}
 use Rattle.exact.specs.Choice.{choose}
-use Rattle.exact.specs.Fixed.{raw, Raw, raw-of, little, bytesOf, fixed, Fixed}
+use Rattle.exact.specs.Fixed.{raw, Raw, raw-of, little, bytesOf, fixed, Fixed, nums}
 use Rattle.exact.proofs.LawsExact.{stop-not-got, reads-as}
 use Rattle.exact.proofs.LawsSequence.{map-exact}
 use Rattle.exact.proofs.LawsChoice.{choose-yes}
@@ -60,3 +61,15 @@ little-bytesOf (suc w) n h =
     let k : n < 256 ^ w * 256 = rw pow-suc at h in
     let q : n / 256 < 256 ^ w = omega arith in
     rw (little-bytesOf w (n / 256) q) (omega arith)
+
+-- So they stand for it.
+pub fixed-of : (w i n : ℕ) → n < 256 ^ w → Fixed w i (bytesOf w n) n
+fixed-of w i n h =
+    let o : Fixed w i (bytesOf w n) (little (bytesOf w n)) = of (raw-of (length-bytesOf w n)) in
+    subst (Fixed w i (bytesOf w n)) (little-bytesOf w n h) o
+
+-- As many numbers as were asked for.
+pub length-nums : (n w : ℕ) (s : List ℕ) → length (nums n w s) ≡ n
+unfolding nums
+length-nums zero w s = refl
+length-nums (suc n) w s = ap suc (length-nums n w (drop w s))

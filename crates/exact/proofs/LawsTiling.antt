@@ -6,19 +6,13 @@ use Prim.Native.Nat.{ℕ, zero, suc, _+_, _≤_, _<_}
 use native.Mathlib.Nat.{le-of-suc-le-suc, not-suc-le-zero}
 use native.Mathlib.Omega.{arith}
 use native.Mathlib.Decide.{decLe}
-use mathlib.Core.Option.{Option, none, some}
+use mathlib.Core.Option.{Option, none, some, Option·none-ne-some, Option·some-injective}
 use mathlib.Core.List.{List, [], _∷_, _++_, append-assoc, append-nil}
 use lib.ListN.{length, take, drop, getD, length-append, length-drop, take-append-drop}
 use lib.Seq.{drop-append-seam, take-append-seam, length-take-le}
 use Rattle.exact.specs.Choice.{choose}
 use Rattle.exact.specs.Tiling.{join, sums, Tiled, cut, endOf, consed, cuts}
 use Rattle.exact.proofs.LawsChoice.{choose-yes}
-
-some-value : {B : Type 0} {x y : B} → some x ≡ some y → x ≡ y
-some-value e = cc
-
-none-not-some : {B : Type 0} {x : B} → none ≡ some x → ⊥
-none-not-some e = let z : _≡_ {A = ℕ} 0 1 = cc in omega arith
 
 -- x is the part of d from s up to e.
 pub record Cut {A : Type 0} (s e : ℕ) (d x : List A) : Type 0 where
@@ -33,9 +27,9 @@ module _ {A : Type 0} where
   cut-inv s e d x = go (decLe s e) (decLe e (length d))
     where
       go : (a : Dec (s ≤ e)) (b : Dec (e ≤ length d)) → choose a (choose b (some (drop s (take e d))) none) none ≡ some x → Cut s e d x
-      go (yes a) (yes b) h = record { low = a; high = b; part = sym (some-value h) }
-      go (yes a) (no b) h = absurd (none-not-some h)
-      go (no a) b h = absurd (none-not-some h)
+      go (yes a) (yes b) h = record { low = a; high = b; part = sym (Option·some-injective _ _ h) }
+      go (yes a) (no b) h = absurd (Option·none-ne-some _ h)
+      go (no a) b h = absurd (Option·none-ne-some _ h)
 
   -- Within bounds the part is cut.
   pub cut-is : (s e : ℕ) (d : List A) → s ≤ e → e ≤ length d → cut s e d ≡ some (drop s (take e d))
@@ -45,9 +39,9 @@ module _ {A : Type 0} where
   consed-inv : (o : Option (List A)) (p : Option (List (List A))) (zs : List (List A)) → consed o p ≡ some zs →
       (e : List A) × (es : List (List A)) × (o ≡ some e) × (p ≡ some es) × (zs ≡ e ∷ es)
   unfolding consed
-  consed-inv none p zs h = absurd (none-not-some h)
-  consed-inv (some e) none zs h = absurd (none-not-some h)
-  consed-inv (some e) (some es) zs h = (e, es, refl, refl, sym (some-value h))
+  consed-inv none p zs h = absurd (Option·none-ne-some _ h)
+  consed-inv (some e) none zs h = absurd (Option·none-ne-some _ h)
+  consed-inv (some e) (some es) zs h = (e, es, refl, refl, sym (Option·some-injective _ _ h))
 
   -- The entry before a tiling ends where the tiling begins.
   pub end-of : (g : List A) (es : List (List A)) → endOf (sums (length g) es) (g ++ join es) ≡ length g
@@ -71,7 +65,7 @@ module _ {A : Type 0} where
 
   cuts-sound : (ss : List ℕ) (d : List A) (zs : List (List A)) → cuts ss d ≡ some zs → Tiled ss d zs
   unfolding cuts
-  cuts-sound [] d zs h = rw (← some-value h) record { gap = d; whole = sym (append-nil d); starts = refl }
+  cuts-sound [] d zs h = rw (← Option·some-injective _ _ h) record { gap = d; whole = sym (append-nil d); starts = refl }
   cuts-sound (s ∷ ss) d zs h =
       let (e, es, p, q, r) = consed-inv (cut s (endOf ss d) d) (cuts ss d) zs h in
       rw r (tiled-cons s ss d e es (cuts-sound ss d es q) (cut-inv s (endOf ss d) d e p))

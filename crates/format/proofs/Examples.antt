@@ -23,11 +23,11 @@ use Rattle.enums.specs.Version.{classOf}
 use Rattle.enums.specs.Types.{typeTags}
 use Rattle.enums.specs.Debug as di
 use Rattle.enums.specs.declared.VersionClass.the-variants.{From13_4}
+use Rattle.enums.specs.Debug.{fieldCounts}
 use Rattle.reading.specs.Numbers.{digits, varintAt, paddingAt, countedAt}
 use Rattle.format.specs.Tables.{Tables, partitionView}
 use Rattle.format.specs.Items.{truth}
 use Rattle.format.specs.Types.{plainTags, among}
-use Rattle.format.specs.Debug.{fieldCounts}
 use Rattle.format.specs.Read.{Read, accepted, refused, atStage, mapRead}
 use Rattle.format.specs.DecodeContainer.{magicAt, headerAt, alignmentAt, sectionAt, itemAt, sectionsAt, later, lastWith, placeOf, placesOf, inSection}
 use Rattle.format.specs.DecodeTables.{fieldAt, indicesAt, paddedAt, offsetTableAt, stringsAt, constantsAt, producerAt}

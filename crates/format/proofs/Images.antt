@@ -12,6 +12,7 @@ use Rattle.exact.specs.Sequence.{of}
 use Rattle.exact.specs.Fixed.{bytesOf}
 use Rattle.exact.specs.Tiling.{join}
 use Rattle.exact.specs.Entries.{Rows}
+use Rattle.exact.proofs.LawsFixed.{fixed-of}
 use Rattle.enums.specs.Container.{sectionIds, stringId, funcId, debugId, constantId, typeId, globalId, producerId}
 use Rattle.encoding.specs.Varint.{spelling}
 use Rattle.encoding.proofs.LawsVarint.{spelling-spells}
@@ -69,7 +70,7 @@ use Rattle.format.specs.Image.{
   headerBytes,
   image,
 }
-use Rattle.format.proofs.LawsImageItems.{all-both, all-zip, all-unmap, fixed-of}
+use Rattle.format.proofs.LawsImageItems.{all-both, all-zip, all-unmap}
 use Rattle.format.proofs.LawsImageTypes.{GoodType, type-of}
 use Rattle.format.proofs.LawsImageRows.{each-of, GoodGlobal, globals-of, GoodFunction, functions-of, GoodAttribute, debug-of}
 use Rattle.format.proofs.LawsImageSections.{sectionsFrom, laid-out, StandsFor, stands-among}
@@ -87,6 +88,7 @@ use Rattle.format.proofs.LawsImageParts.{
 use Rattle.format.proofs.LawsWords.{FrameFits, frame-fits}
 use Rattle.format.proofs.LawsLast.{places-sound}
 use Rattle.format.proofs.Decoded.{decode-complete, tables-only}
+use Rattle.format.proofs.LawsImageLength.{header-size}
 
 not-named : (p : Option ℕ) → isNamed p ≡ false → none ≡ p
 unfolding isNamed
@@ -222,10 +224,6 @@ header-of : (v : Version) → SoundVersion v → Header (headerBytes v) v
 unfolding headerBytes
 header-of v h = record { tagBytes = bytesOf 2 (v .tag); whole = refl; tag = fixed-of 2 0 (v .tag) (h .tag-half) }
 
-header-length : (v : Version) → length (headerBytes v) ≡ 12
-unfolding headerBytes bytesOf
-header-length v = refl
-
 -- The section stands for the very value.
 very : {A : Type 0} {id : ℕ} {ss : List Section} {R : ℕ → ℕ → List ℕ → A → Type 0} {e b : A} → StandsFor id ss R e (λ v. v) b → Payload id ss R e b
 very {id = id} {ss} {R} {e} x = subst (Payload id ss R e) (x .shown) (x .payload)
@@ -262,7 +260,7 @@ image-explained t s n =
                   after = [];
                   whole = ap (λ x. headerBytes (t .version) ++ x) (sym (append-nil (partsFrom 12 ps)));
                   headed = header-of (t .version) (s .frame .version);
-                  laid = rw (header-length (t .version)) (laid-out 12 ps (parts-good t (small t s n)));
+                  laid = rw (header-size (t .version)) (laid-out 12 ps (parts-good t (small t s n)));
                 };
             strings = rowed strings;
             producer = very (producer-stands t s n 12);

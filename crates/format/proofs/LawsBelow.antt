@@ -27,13 +27,14 @@ use Rattle.exact.proofs.LawsSteps.{byte-at, byte-end, raw-at, raw-end}
 use Rattle.enums.specs.Container.{hintsFlag}
 use Rattle.enums.specs.Refusals as refusals
 use Rattle.enums.specs.declared.VersionClass.{VersionClass}
+use Rattle.enums.specs.Version.{since13·3, since13·4}
+use Rattle.enums.specs.Debug.{fieldCounts}
 use Rattle.reading.specs.Numbers.{digits, varintAt, paddingAt, countedAt}
 use Rattle.format.specs.Tables.{plain, Attribute}
-use Rattle.format.specs.Items.{since13·3, since13·4}
 use Rattle.format.specs.Strings.{noRows}
 use Rattle.format.specs.Types.{plainTags, among, valuesOf}
 use Rattle.format.specs.Functions.{apart}
-use Rattle.format.specs.Debug.{fieldCounts, attributeOf}
+use Rattle.format.specs.Debug.{attributeOf}
 use Rattle.format.specs.DecodeTables.{fieldAt, indicesAt, paddedAt, shape, offsetTableAt, stringsAt, constantsAt, producerAt}
 use Rattle.format.specs.DecodeTypes as D
 use Rattle.format.specs.DecodeRows.{globalAt, globalsAt, bodyAt, functionAt, functionsAt}

@@ -26,10 +26,11 @@ use Rattle.exact.proofs.LawsRefuse.{refuse-exact}
 use Rattle.exact.proofs.LawsUpto.{upto-ends}
 use Rattle.exact.proofs.LawsEntries.{counted-entries-ends}
 use Rattle.enums.specs.Container.{P}
+use Rattle.enums.specs.Debug.{fieldCounts}
 use Rattle.reading.proofs.LawsNumbers.{varint-exact}
 use Rattle.format.specs.Tables.{Attribute}
 use Rattle.format.specs.Items.{Number, Padded}
-use Rattle.format.specs.Debug.{fieldCounts, attributeOf, AttributeEntry, attribute, DebugTables, Debug, debug}
+use Rattle.format.specs.Debug.{attributeOf, AttributeEntry, attribute, DebugTables, Debug, debug}
 use Rattle.format.specs.DecodeTables.{shape}
 use Rattle.format.specs.DecodeDebug.{attributeAt, attributesAt, listsAt, debugAt}
 use Rattle.format.proofs.LawsItems.{padded-exact}

@@ -6,7 +6,7 @@ use native.Mathlib.Decide.{ℕ-discrete}
 use native.Mathlib.Omega.{arith}
 use native.Mathlib.Nat.{zero-add, le-refl}
 use mathlib.Core.List.{List, [], _∷_, _++_, map, append-nil}
-use mathlib.Core.Option.{Option, none, some}
+use mathlib.Core.Option.{Option, none, some, Option·none-ne-some}
 use lib.ListN.{length, drop, getD, length-map, drop-of-length-le}
 use lib.Seq.{drop-cons}
 use Rattle.exact.specs.Got.{Got, got, stop}
@@ -62,9 +62,6 @@ use Rattle.format.proofs.LawsSheetRows.{
   producer-exact,
 }
 
-pub none-not-some : {B : Type 0} {x : B} → none ≡ some x → ⊥
-none-not-some e = let z : _≡_ {A = ℕ} 0 1 = cc in omega arith
-
 abbrev frameFrom : Version → Option ℕ → List ℕ → List TypeRow → List ℕ → List Global → List FunctionRow → List Attribute →
     List (List ℕ) → Frame
 frameFrom v p ss ts cs gs fs at ls =
@@ -111,7 +108,7 @@ abbrev pub part : ℕ → ℕ → List ℕ → List ℕ
 part zero k l = []
 part (suc n) k l = getD l k 0 ∷ part n (suc k) l
 
-part-all : (n k : ℕ) (l : List ℕ) → length l ≡ k + n → drop k l ≡ part n k l
+pub part-all : (n k : ℕ) (l : List ℕ) → length l ≡ k + n → drop k l ≡ part n k l
 part-all zero k l e = drop-of-length-le l {i = k} (omega arith)
 part-all (suc n) k l e = drop-cons l k 0 (omega arith) ∙ ap (λ x. getD l k 0 ∷ x) (part-all n (suc k) l (omega arith))
 
@@ -204,12 +201,12 @@ frame-from r s =
 
 ending-inv : {A : Type 0} (n : ℕ) (g : Got A) (v : A) → endingAt n g ≡ some v → g ≡ got v n
 unfolding endingAt choose
-ending-inv n (stop c k) v e = absurd (none-not-some e)
+ending-inv n (stop c k) v e = absurd (Option·none-ne-some _ e)
 ending-inv n (got w j) v e = go (ℕ-discrete j n) e
   where
     go : (d : Dec (j ≡ n)) → choose d (some w) none ≡ some v → got w j ≡ got v n
     go (yes h) q = cc
-    go (no h) q = absurd (none-not-some q)
+    go (no h) q = absurd (Option·none-ne-some _ q)
 
 ending-got : {A : Type 0} (n : ℕ) (v : A) → endingAt n (got v n) ≡ some v
 unfolding endingAt
@@ -238,4 +235,4 @@ judged-exact s r = go (all? (fits? 64) s)
     go : (d : Dec (All (Fits 64) s)) →
         (choose d (endingAt (length s) (frameAt s 0)) none ≡ some r) ↔ ((s ≡ wordsOf r) × All (Fits 64) s × SoundFrame r)
     go (yes a) = (λ e. let h = whole-read s r .0 e in (h .0, a, h .1), λ h. whole-read s r .1 (h .0, h .2))
-    go (no n) = (λ e. absurd (none-not-some e), λ h. absurd (n (h .1)))
+    go (no n) = (λ e. absurd (Option·none-ne-some _ e), λ h. absurd (n (h .1)))

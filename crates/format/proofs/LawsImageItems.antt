@@ -1,5 +1,5 @@
 -- What the writer writes for numbers, arrays, optional fields and offset tables stands for them. Assumes nothing.
-use mathlib.Core.Path.{refl, ap, _∙_, subst}
+use mathlib.Core.Path.{refl, ap, _∙_}
 use mathlib.Core.Logic.{inl, inr}
 use Prim.Native.Nat.{ℕ, _+_, _^_, _<_}
 use mathlib.Core.List.{List, [], _∷_, _++_, map, append-assoc}
@@ -8,11 +8,11 @@ use Rattle.exact.specs.Exact.{Lang}
 use Rattle.exact.specs.Sequence.{of}
 use Rattle.exact.specs.Choice.{choose}
 use Rattle.exact.specs.Repeat.{Many, nil, cons, counted-of}
-use Rattle.exact.specs.Fixed.{little, bytesOf, raw-of, Fixed}
+use Rattle.exact.specs.Fixed.{bytesOf, Fixed}
 use Rattle.exact.specs.Padding.{gap}
 use Rattle.exact.specs.Tiling.{join, sums}
 use Rattle.exact.specs.Entries.{Each, Entries}
-use Rattle.exact.proofs.LawsFixed.{length-bytesOf, little-bytesOf}
+use Rattle.exact.proofs.LawsFixed.{fixed-of}
 use Rattle.exact.proofs.LawsTiling.{length-sums}
 use Rattle.enums.specs.Container.{P}
 use Rattle.encoding.specs.Varint.{spelling}
@@ -48,12 +48,6 @@ all-zip Q R S f (v ∷ vs) h k = (f v (h .0) (k .0), all-zip Q R S f vs (h .1) (
 pub all-unmap : {A B : Type 0} (Q : B → Type 0) (f : A → B) (vs : List A) → All Q (map f vs) → All (λ v. Q (f v)) vs
 all-unmap Q f [] h = tt
 all-unmap Q f (v ∷ vs) h = (h .0, all-unmap Q f vs (h .1))
-
--- A number of w bytes.
-pub fixed-of : (w i v : ℕ) → v < 256 ^ w → Fixed w i (bytesOf w v) v
-fixed-of w i v h =
-    let o : Fixed w i (bytesOf w v) (little (bytesOf w v)) = of (raw-of (length-bytesOf w v)) in
-    subst (Fixed w i (bytesOf w v)) (little-bytesOf w v h) o
 
 -- Numbers of w bytes each.
 pub fixed-all : (w i : ℕ) (vs : List ℕ) → All (λ v. v < 256 ^ w) vs → Many (Fixed w) (length vs) i (flat w vs) vs

@@ -1,15 +1,13 @@
 -- How long an image is, and where its starts are, does not depend on the bytes of the pool. Assumes nothing.
-use mathlib.Core.Path.{_≡_, refl, sym, ap, ap₂, _∙_, subst}
-use mathlib.Core.Bool.{Bool, true, false, cond, _||_}
-use Prim.Native.Nat.{ℕ, suc, _+_}
-use native.Mathlib.Nat.{add-assoc}
+use mathlib.Core.Path.{_≡_, refl, sym, ap, _∙_, subst}
+use mathlib.Core.Bool.{Bool, true, false, cond}
+use Prim.Native.Nat.{ℕ, _+_}
 use native.Mathlib.Omega.{arith}
 use mathlib.Core.List.{List, [], _∷_, _++_, map}
 use mathlib.Core.Option.{Option, some}
 use lib.ListN.{length, length-append, length-map}
 use Rattle.exact.specs.Fixed.{bytesOf}
 use Rattle.exact.specs.Tiling.{join, sums}
-use Rattle.enums.specs.declared.VersionClass.{VersionClass}
 use Rattle.encoding.specs.Varint.{spelling}
 use Rattle.format.specs.Tables.{Version, Function, Tables}
 use Rattle.format.specs.Explains.{class}
@@ -132,7 +130,7 @@ parts-outlines t =
     record { present = rows-map functionRowOf (t .functions) i; alignment = functionPart [] .alignment; size = c i } ∷
     outline (debugPart (t .lists) (t .attributes)) ∷ []
 
-header-size : (v : Version) → length (headerBytes v) ≡ 12
+pub header-size : (v : Version) → length (headerBytes v) ≡ 12
 unfolding headerBytes bytesOf
 header-size v = refl
 

@@ -1,8 +1,7 @@
 -- What the writer writes for well-formed globals, functions and debug tables stands for them. Assumes nothing.
 use mathlib.Core.Path.{_≡_, refl, sym, ap, subst}
-use Prim.Native.Nat.{ℕ, zero, suc, _+_, _≤_, _<_}
+use Prim.Native.Nat.{ℕ, zero, suc, _+_, _<_}
 use native.Mathlib.Nat.{zero-add}
-use native.Mathlib.Omega.{arith}
 use mathlib.Core.List.{List, [], _∷_, _++_, map, append-nil}
 use lib.ListN.{length, take, drop, getD, length-map, take-append-drop}
 use lib.Seq.{length-take-le}
@@ -14,13 +13,15 @@ use Rattle.exact.specs.Upto.{upto-of}
 use Rattle.exact.specs.Entries.{Each, none-left, entry-of}
 use Rattle.exact.proofs.LawsTiling.{length-sums}
 use Rattle.enums.specs.declared.VersionClass.{VersionClass}
+use Rattle.enums.specs.Debug.{fieldCounts}
+use Rattle.enums.proofs.LawsDebug.{counts-few}
 use Rattle.encoding.specs.Varint.{spelling}
 use Rattle.encoding.proofs.LawsVarint.{spelling-spells}
 use Rattle.format.specs.Tables.{Global, Function, Attribute}
 use Rattle.format.specs.Items.{Number, byte-of, Truth, truth, truth-of}
 use Rattle.format.specs.Globals.{GlobalRow, global, Globals}
 use Rattle.format.specs.Functions.{Located, apart, FunctionRow, function, Functions}
-use Rattle.format.specs.Debug.{fieldCounts, attributeOf, AttributeEntry, attribute, Debug, debug}
+use Rattle.format.specs.Debug.{attributeOf, AttributeEntry, attribute, Debug, debug}
 use Rattle.format.specs.Sheet.{functionRowOf, globalWords, functionWords, attributeFields, attributeWords}
 use Rattle.format.specs.Sound.{All, Fits, SoundGlobal, SoundFunction, SoundAttribute}
 use Rattle.format.specs.Tests.{since3?}
@@ -131,17 +132,6 @@ take-zeros (suc n) [] k h = refl
 take-zeros (suc n) (x ∷ l) zero h = refl
 take-zeros (suc n) (x ∷ l) (suc k) h = take-zeros n l k h
 
--- No tag asks for more than six fields.
-counts-most : (t : ℕ) → getD fieldCounts t 0 ≤ 6
-counts-most zero = omega arith
-counts-most (suc zero) = omega arith
-counts-most (suc (suc zero)) = omega arith
-counts-most (suc (suc (suc zero))) = omega arith
-counts-most (suc (suc (suc (suc zero)))) = omega arith
-counts-most (suc (suc (suc (suc (suc zero))))) = omega arith
-counts-most (suc (suc (suc (suc (suc (suc zero)))))) = omega arith
-counts-most (suc (suc (suc (suc (suc (suc (suc t))))))) = omega arith
-
 module _ (a : Attribute) (h : GoodAttribute a) where
   -- The fields of an attribute that are on the wire.
   abbrev onWire : List ℕ
@@ -165,7 +155,7 @@ module _ (a : Attribute) (h : GoodAttribute a) where
 
   wire-length : length onWire ≡ getD fieldCounts (a .tag) 0
   unfolding attributeFields
-  wire-length = length-take-le _ (attributeFields a) (counts-most (a .tag))
+  wire-length = length-take-le _ (attributeFields a) (counts-few (a .tag))
 
   -- An attribute's entry.
   pub attribute-of : (i : ℕ) → AttributeEntry i (attributeBytes a) a

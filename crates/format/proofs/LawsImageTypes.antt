@@ -1,7 +1,7 @@
 -- What the writer writes for a well-formed type row is an entry that stands for it. Assumes nothing.
 use mathlib.Core.Path.{_≡_, refl, sym, subst}
 use mathlib.Core.Logic.{inl, inr}
-use mathlib.Core.Bool.{Bool, true, false}
+use mathlib.Core.Bool.{true}
 use Prim.Native.Nat.{ℕ, _<_}
 use native.Mathlib.Decide.{ℕ-discrete}
 use native.Mathlib.Omega.{arith}
@@ -9,6 +9,7 @@ use mathlib.Core.List.{List, [], _∷_, _++_, append-nil}
 use Rattle.exact.specs.Choice.{choose}
 use Rattle.enums.specs.declared.VersionClass.{VersionClass}
 use Rattle.enums.specs.Types as tags
+use Rattle.enums.specs.Version.{since13·3}
 use Rattle.encoding.specs.Varint.{spelling}
 use Rattle.encoding.specs.Out.{countedBytes}
 use Rattle.encoding.proofs.LawsVarint.{spelling-spells}
@@ -23,13 +24,14 @@ use Rattle.format.specs.Tables.{
   stridedView,
   function,
 }
-use Rattle.format.specs.Items.{Byte, byte-of, Array, Truth, truth, truth-of, Bit0, since13·3}
+use Rattle.format.specs.Items.{Byte, byte-of, Array, Truth, truth, truth-of, Bit0}
 use Rattle.format.specs.Types as T
 use Rattle.format.specs.Sheet.{countedWords, fieldWords}
 use Rattle.format.specs.Sound.{All, Fits, OnlyIf, SoundType}
 use Rattle.format.specs.Tests.{since3?, since4?}
 use Rattle.format.specs.Image.{onlyWhere, optionalByte, partitionBytes, typeBytes}
 use Rattle.format.proofs.LawsImageItems.{all-front, all-back, array-of, indices-of, field-of, byte-field}
+use Rattle.format.proofs.LawsItems.{not-true}
 
 -- The words of a row: a list with its count, and what stands behind it.
 abbrev Words : List ℕ → Type 0
@@ -64,10 +66,6 @@ presence v h = let t : Truth Byte (v ∷ []) (truth v) = truth-of byte-of in sub
 present-only : (flags v : ℕ) → flags < 2 → OnlyIf (Bit0 flags) v → OnlyIf (flags ≡ 1) v
 present-only flags v h (inl b) = inl (omega arith)
 present-only flags v h (inr e) = inr e
-
-not-true : (b : Bool) → ¬ (b ≡ true) → b ≡ false
-not-true true n = absurd (n refl)
-not-true false n = refl
 
 module _ (c : VersionClass) (flags : ℕ) (shape : List ℕ) (view : ℕ) (dims : List ℕ) (padding : ℕ)
     (w : Words (fieldWords (partitionView flags shape view dims padding)))

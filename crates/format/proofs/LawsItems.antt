@@ -1,6 +1,8 @@
 -- The items of payloads are read exactly. Assumes nothing.
-use mathlib.Core.Path.{_≡_, sym, subst}
+use mathlib.Core.Path.{_≡_, sym, subst, refl}
 use Prim.Native.Nat.{ℕ, _+_}
+use native.Mathlib.Decide.{ℕ-discrete}
+use mathlib.Core.Bool.{Bool, true, false}
 use mathlib.Core.List.{List}
 use lib.ListN.{length, length-replicate}
 use Rattle.exact.specs.Exact.{Parser, Lang, Exact}
@@ -13,7 +15,7 @@ use Rattle.exact.specs.Padding.{Pad, gap, literal-of}
 use Rattle.exact.proofs.LawsExact.{same-exact}
 use Rattle.exact.proofs.LawsBasic.{byte-exact, pure-exact}
 use Rattle.exact.proofs.LawsSequence.{bind-exact, map-exact}
-use Rattle.exact.proofs.LawsChoice.{choose-exact}
+use Rattle.exact.proofs.LawsChoice.{choose-exact, choose-yes, choose-no}
 use Rattle.exact.proofs.LawsRepeat.{times-exact, counted-exact, many-length}
 use Rattle.exact.proofs.LawsFixed.{fixed-exact}
 use Rattle.enums.specs.Container.{P}
@@ -113,3 +115,17 @@ unfolding paddedAt
 padded-exact w a =
     same-exact (bind-exact varint-exact (λ n. bind-exact (padding-exact a) (λ u. times-exact n (fixed-exact w))))
     (λ i bs v. (to-padded w a i bs v, of-padded w a i bs v))
+
+-- A flag is 0 or 1.
+pub truth-zero : (v : ℕ) → v ≡ 0 → 0 ≡ truth v
+unfolding truth
+truth-zero v h = sym (choose-yes (ℕ-discrete v 0) 0 1 h)
+
+pub truth-one : (v : ℕ) → ¬ (v ≡ 0) → 1 ≡ truth v
+unfolding truth
+truth-one v h = sym (choose-no (ℕ-discrete v 0) 0 1 h)
+
+-- A test that is not passed has failed.
+pub not-true : (b : Bool) → ¬ (b ≡ true) → b ≡ false
+not-true true n = absurd (n refl)
+not-true false n = refl

@@ -1,10 +1,9 @@
 -- Which refusals the parsers of a file's parts give. Assumes nothing.
-use mathlib.Core.Path.{refl}
 use mathlib.Core.Bool.{true, Bool-discrete}
 use mathlib.Core.Option.{Option, none, some}
 use Prim.Native.Nat.{ℕ, zero, suc, _+_, _*_, _/_, _%_}
 use native.Mathlib.Decide.{decLt, ℕ-discrete}
-use mathlib.Core.List.{List, [], _∷_}
+use mathlib.Core.List.{List}
 use lib.ListN.{length, getD}
 use Rattle.exact.specs.Exact.{Parser}
 use Rattle.exact.specs.Tiling.{cuts}
@@ -37,14 +36,16 @@ use Rattle.exact.proofs.LawsOnly.{
 use Rattle.enums.specs.Container.{P, magic, endOfBytecode, hintsFlag}
 use Rattle.enums.specs.Refusals as refusals
 use Rattle.enums.specs.declared.VersionClass.{VersionClass}
+use Rattle.enums.specs.Version.{since13·3, since13·4}
+use Rattle.enums.specs.Debug.{fieldCounts}
 use Rattle.reading.specs.Numbers.{digits, varintAt, paddingAt, countedAt}
-use Rattle.format.specs.Items.{truth, since13·3, since13·4}
+use Rattle.format.specs.Items.{truth}
 use Rattle.format.specs.Types.{plainTags, among, valuesOf}
-use Rattle.format.specs.Tables.{TypeRow, plain, Attribute}
+use Rattle.format.specs.Tables.{plain, Attribute}
 use Rattle.format.specs.Sections.{Section}
 use Rattle.format.specs.Strings.{noRows}
 use Rattle.format.specs.Functions.{apart}
-use Rattle.format.specs.Debug.{fieldCounts, attributeOf}
+use Rattle.format.specs.Debug.{attributeOf}
 use Rattle.format.specs.DecodeContainer.{same, magicAt, headerAt, alignmentAt, sectionAt, itemAt, sectionsAt, inSection}
 use Rattle.format.specs.DecodeTables.{fieldAt, indicesAt, paddedAt, shape, offsetTableAt, stringsAt, constantsAt, producerAt}
 use Rattle.format.specs.DecodeTypes as types

@@ -22,10 +22,11 @@ use Rattle.exact.proofs.LawsRefuse.{refuse-exact}
 use Rattle.exact.proofs.LawsUpto.{upto-ends, place-exact, map-ends}
 use Rattle.enums.specs.Container.{hintsFlag}
 use Rattle.enums.specs.declared.VersionClass.{VersionClass}
+use Rattle.enums.specs.Version.{since13·3}
 use Rattle.encoding.specs.Varint.{Spells}
 use Rattle.reading.proofs.LawsNumbers.{varint-exact}
 use Rattle.format.specs.Tables.{Global, Function}
-use Rattle.format.specs.Items.{Number, Byte, Field, Truth, since13·3}
+use Rattle.format.specs.Items.{Number, Byte, Field, Truth}
 use Rattle.format.specs.Globals.{GlobalRow, global, Globals}
 use Rattle.format.specs.Functions.{Located, apart, NoHints, FunctionRow, function, Functions}
 use Rattle.format.specs.DecodeRows.{globalAt, globalsAt, bodyAt, functionAt, functionsAt}

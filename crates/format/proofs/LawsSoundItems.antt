@@ -2,12 +2,12 @@
 -- of them than bytes. Assumes nothing.
 use mathlib.Core.Path.{_≡_, refl}
 use mathlib.Core.Logic.{inl, inr}
-use Prim.Native.Nat.{ℕ, suc, _+_, _*_, _^_, _≤_, _<_}
+use Prim.Native.Nat.{ℕ, zero, suc, _+_, _*_, _^_, _≤_, _<_}
 use native.Mathlib.Decide.{ℕ-discrete}
 use native.Mathlib.Nat.{pow-suc}
 use native.Mathlib.Omega.{arith}
 use mathlib.Core.List.{List, [], _∷_, _++_}
-use lib.ListN.{length, length-append}
+use lib.ListN.{length, getD, replicate, length-append}
 use Rattle.exact.specs.Sequence.{of}
 use Rattle.exact.specs.Choice.{choose}
 use Rattle.exact.specs.Repeat.{Many, nil, cons, counted-of}
@@ -39,6 +39,16 @@ bytes-front = all-front (Fits 8)
 
 pub bytes-back : (xs ys : List ℕ) → Bytes (xs ++ ys) → Bytes ys
 bytes-back = all-back (Fits 8)
+
+-- The elements of a slice of bytes are bytes ..
+pub known-bytes : (l : List ℕ) → ((i : ℕ) → getD l i 0 < 256) → Bytes l
+known-bytes [] h = tt
+known-bytes (x ∷ l) h = (h 0, known-bytes l (λ i. h (suc i)))
+
+-- .. and so are zeros.
+pub zeros-fit : (n : ℕ) → Bytes (replicate n 0)
+zeros-fit zero = tt
+zeros-fit (suc n) = (omega arith, zeros-fit n)
 
 little-below : (bs : List ℕ) → Bytes bs → little bs < 256 ^ length bs
 unfolding little

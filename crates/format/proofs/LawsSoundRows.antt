@@ -13,13 +13,14 @@ use Rattle.exact.proofs.LawsRepeat.{many-length}
 use Rattle.exact.proofs.LawsTiling.{length-sums}
 use Rattle.enums.specs.declared.VersionClass.{VersionClass}
 use Rattle.enums.specs.Container.{P}
+use Rattle.enums.specs.Debug.{fieldCounts}
 use Rattle.encoding.proofs.LawsVarint.{spells-below}
 use Rattle.format.specs.Tables.{Global, Function, Attribute}
 use Rattle.format.specs.Items.{Number}
 use Rattle.format.specs.Strings.{OffsetTable, empty, filled}
 use Rattle.format.specs.Globals.{GlobalRow, global}
 use Rattle.format.specs.Functions.{Located, apart, FunctionRow, function}
-use Rattle.format.specs.Debug.{fieldCounts, AttributeEntry, attribute}
+use Rattle.format.specs.Debug.{AttributeEntry, attribute}
 use Rattle.format.specs.Sheet.{functionRowOf, globalWords, functionWords, attributeFields, attributeWords}
 use Rattle.format.specs.Sound.{All, Fits}
 use Rattle.format.proofs.LawsFrame.{part}

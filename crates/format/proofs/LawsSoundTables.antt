@@ -8,9 +8,10 @@ use lib.ListN.{length, replicate, length-append}
 use Rattle.exact.specs.Sequence.{of}
 use Rattle.exact.specs.Padding.{gap}
 use Rattle.exact.specs.Tiling.{join, Tiled}
-use Rattle.exact.specs.Upto.{Whole, whole-of}
-use Rattle.exact.specs.Entries.{Each, none-left, entry-of, Rows}
+use Rattle.exact.specs.Upto.{Whole}
+use Rattle.exact.specs.Entries.{Rows}
 use Rattle.exact.proofs.LawsTiling.{length-sums}
+use Rattle.exact.proofs.LawsEntries.{whole-same}
 use Rattle.enums.specs.declared.VersionClass.{VersionClass}
 use Rattle.enums.specs.Container.{P}
 use Rattle.format.specs.Tables.{TypeRow, Global, Function}
@@ -45,10 +46,6 @@ pub record Runs (n : ℕ) (es : List (List ℕ)) : Type 0 where
   pub bytes : Bytes (join es)
   pub size : length (join es) ≤ n
   pub count : length es ≤ n
-
-whole-same : (es vs : List (List ℕ)) → Each Whole es vs → es ≡ vs
-whole-same es vs none-left = refl
-whole-same es vs (entry-of {e = e} {es = fs} {vs = us} whole-of t) = ap (λ x. e ∷ x) (whole-same fs us t)
 
 -- Strings and constants.
 pub runs-of-table : (w a o n : ℕ) (bs : List ℕ) (v : Rows (List ℕ)) → OffsetTable (suc w) a o Whole 0 bs v → Bytes bs → length bs ≤ n →

@@ -20,9 +20,11 @@ use Rattle.format.specs.Sheet.{
   producerWord,
   poolLength,
   wordsOf,
+  attributeFields,
 }
 use Rattle.format.specs.Sound.{All, Fits, SoundVersion}
 use Rattle.format.proofs.LawsImageItems.{all-both}
+use Rattle.format.specs.Tables.{Attribute}
 
 -- The words of rows, row by row, are the words of the table.
 rows-join : {A : Type 0} (f : A → List ℕ) (vs : List A) → All (λ v. All (Fits 64) (f v)) vs → All (Fits 64) (join (map f vs))
@@ -51,9 +53,16 @@ lengths-each (e ∷ es) l =
     let n : Fits 64 (length e) = omega arith in
     ((n, tt), lengths-each es (omega arith))
 
-ones-length : (ns : List ℕ) → length (join (map lengthWords ns)) ≡ length ns
+-- A length has one word.
+pub ones-length : (ns : List ℕ) → length (join (map lengthWords ns)) ≡ length ns
 ones-length [] = refl
 ones-length (n ∷ ns) = ap suc (ones-length ns)
+
+-- An attribute has seven.
+pub attributes-words : (vs : List Attribute) → length (join (map attributeWords vs)) ≡ 7 * length vs
+unfolding attributeWords attributeFields
+attributes-words [] = refl
+attributes-words (v ∷ vs) = omega (arith, attributes-words vs)
 
 -- Lengths of runs that are not too long.
 pub lengths-fitted : (es : List (List ℕ)) → length (join es) ≤ mostBytes → length es ≤ mostBytes → Fitted lengthWords (map length es)

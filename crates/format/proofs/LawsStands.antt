@@ -8,9 +8,10 @@ use lib.ListN.{length, take, drop, getD, length-append}
 use lib.Seq.{drop-append-seam, take-append-seam}
 use Rattle.exact.specs.Repeat.{Many, nil, cons}
 use Rattle.exact.specs.Tiling.{join, sums}
-use Rattle.exact.specs.Upto.{Whole, whole-of}
+use Rattle.exact.specs.Upto.{Whole}
 use Rattle.exact.specs.Until.{end, item}
-use Rattle.exact.specs.Entries.{Rows, Each, none-left, entry-of, Entries}
+use Rattle.exact.specs.Entries.{Rows, Entries}
+use Rattle.exact.proofs.LawsEntries.{whole-same}
 use Rattle.enums.specs.Container.{P}
 use Rattle.format.specs.Tables.{Function}
 use Rattle.format.specs.Items.{Number}
@@ -72,16 +73,12 @@ sums-stand n [] k h = absurd (not-suc-le-zero h)
 sums-stand n (e ∷ es) zero h = record { before = []; after = join es; whole = refl; place = sym (add-zero n) }
 sums-stand n (e ∷ es) (suc k) h = stands-behind n e (join es) _ _ (sums-stand (n + length e) es k (le-of-suc-le-suc h))
 
-whole-each : (es vs : List (List ℕ)) → Each Whole es vs → es ≡ vs
-whole-each es vs none-left = refl
-whole-each es vs (entry-of {e = e} {es = fs} {vs = ws} whole-of t) = ap (λ z. e ∷ z) (whole-each fs ws t)
-
 -- Row k of a table of strings or constants stands at its place.
 pub entries-stand : (w a o : ℕ) (i : ℕ) (bs : List ℕ) (v : Rows (List ℕ)) → Entries Number P w a o Whole i bs v → (k : ℕ) →
     k < length (v .values) → Stands (o + i) bs (getD (v .at) k 0) (getD (v .values) k [])
 entries-stand w a o i bs v e k h =
     let t = e .table in
-    let q : e .parts ≡ v .values = whole-each (e .parts) (v .values) (e .read) in
+    let q : e .parts ≡ v .values = whole-same (e .parts) (v .values) (e .read) in
     let b : ℕ = o + i + length (t .count) + length (t .pads) + length (t .starts) + length (t .before) in
     let s : Stands b (join (v .values)) (getD (sums b (v .values)) k 0) (getD (v .values) k []) = sums-stand b (v .values) k h in
     rw (t .whole, e .placed, q)

@@ -3,7 +3,7 @@ use mathlib.Core.Path.{_≡_, refl, sym, ap, _∙_}
 use Prim.Native.Nat.{ℕ, _%_}
 use native.Mathlib.Omega.{arith}
 use native.Mathlib.Decide.{ℕ-discrete}
-use mathlib.Core.Bool.{Bool, true, false, Bool-discrete, false≢true}
+use mathlib.Core.Bool.{true, false, Bool-discrete, false≢true}
 use mathlib.Core.List.{List, _++_, append-assoc}
 use Rattle.exact.specs.Exact.{Lang, Exact, Ends}
 use Rattle.exact.specs.Basic.{byte, Is, is}
@@ -19,15 +19,16 @@ use Rattle.exact.proofs.LawsPadding.{here-exact}
 use Rattle.exact.proofs.LawsRefuse.{pick-at-exact}
 use Rattle.exact.proofs.LawsUpto.{upto-ends}
 use Rattle.enums.specs.declared.VersionClass.{VersionClass}
+use Rattle.enums.specs.Version.{since13·3, since13·4}
 use Rattle.encoding.specs.Varint.{Spells}
 use Rattle.reading.specs.Numbers.{varintAt}
 use Rattle.reading.proofs.LawsNumbers.{varint-exact}
 use Rattle.format.specs.Tables.{TypeRow, plain, pointer, tile, tensorView, partitionView, gatherScatterView, stridedView, function}
 use Rattle.format.specs.DecodeTables.{fieldAt}
-use Rattle.format.specs.Items.{truth, Number, Byte, Field, Array, Indices, Truth, Bit0, since13·3, since13·4}
+use Rattle.format.specs.Items.{truth, Number, Byte, Field, Array, Indices, Truth, Bit0}
 use Rattle.format.specs.Types as T
 use Rattle.format.specs.DecodeTypes as D
-use Rattle.format.proofs.LawsItems.{array-exact, indices-exact, one-byte-exact, field-exact, truth-exact}
+use Rattle.format.proofs.LawsItems.{array-exact, indices-exact, one-byte-exact, field-exact, truth-exact, not-true}
 
 -- Flags from 13.4 on, a byte by bit 0, and counted numbers of w bytes.
 abbrev Flags : VersionClass → Lang ℕ
@@ -185,10 +186,6 @@ of-function-type i bs w (T.FunctionType.fields n r) = then n (of r)
 function-type-exact : Exact D.functionTypeAt (λ i. T.FunctionType)
 unfolding D.functionTypeAt
 function-type-exact = let x : Exact D.functionTypeAt FunctionTypeChain = search exacts depth 24 in same-exact x (λ i bs v. (to-function-type i bs v, of-function-type i bs v))
-
-not-true : (b : Bool) → ¬ (b ≡ true) → b ≡ false
-not-true true n = absurd (n refl)
-not-true false n = refl
 
 -- Each kind is read exactly.
 all-exact : (c : VersionClass) → AllExact (D.kinds c)

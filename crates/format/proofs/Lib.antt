@@ -8,6 +8,7 @@ pub mod Sheets
 pub mod SheetOne
 pub mod LawsItems
 pub mod LawsTables
+pub mod LawsTags
 pub mod LawsTypes
 pub mod LawsRows
 pub mod LawsDebug

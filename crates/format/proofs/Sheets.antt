@@ -5,7 +5,7 @@ use mathlib.Core.Logic.{_↔_}
 use Prim.Native.Nat.{ℕ}
 use native.Mathlib.Decide.{ℕ-discrete}
 use mathlib.Core.List.{List}
-use mathlib.Core.Option.{Option, none, some}
+use mathlib.Core.Option.{Option, none, some, Option·none-ne-some}
 use lib.ListN.{length}
 use Rattle.exact.specs.Choice.{choose}
 use Rattle.exact.proofs.LawsChoice.{choose-yes}
@@ -14,7 +14,7 @@ use Rattle.format.specs.Sheet.{Frame, frameOf, poolLength, wordsOf, shee
 use Rattle.format.specs.Sound.{All, Fits, Sound}
 use Rattle.format.specs.Tests.{both?, all?, fits?}
 use Rattle.format.specs.Judge.{judged, cutting, withPool, tablesOf}
-use Rattle.format.proofs.LawsFrame.{judged-exact, none-not-some}
+use Rattle.format.proofs.LawsFrame.{judged-exact}
 use Rattle.format.proofs.LawsPool.{frame-cutting, pool-cutting, cutting-of, pool-length}
 
 -- The pool's length is that of the rows, and it holds bytes.
@@ -27,12 +27,12 @@ with-pool p r t = go (both? (ℕ-discrete (length p) (poolLength r)) (all? (fits
   where
     go : (d : Dec (Pooled r p)) → choose d (some (cutting r p)) none ≡ some t → Pooled r p × (cutting r p ≡ t)
     go (yes h) e = (h, cc)
-    go (no n) e = absurd (none-not-some e)
+    go (no n) e = absurd (Option·none-ne-some _ e)
 
 judge-sound : (s p : List ℕ) (t : Tables) (o : Option Frame) → judged s ≡ o → withPool p o ≡ some t →
     (s ≡ sheetOf t) × (p ≡ poolOf t) × Sound t
 unfolding withPool sheetOf
-judge-sound s p t none j e = absurd (none-not-some e)
+judge-sound s p t none j e = absurd (Option·none-ne-some _ e)
 judge-sound s p t (some r) j e =
     let x = judged-exact s r .0 j in
     let w = with-pool p r t e in

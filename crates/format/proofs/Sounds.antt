@@ -35,10 +35,7 @@ use Rattle.format.proofs.LawsSoundItems.{Bytes, bytes-front, bytes-back
 use Rattle.format.proofs.LawsSoundRows.{Sized, none-sized}
 use Rattle.format.proofs.LawsSoundTables.{Runs, runs-of-table, types-sized, globals-sized, functions-sized, GoodList, debug-sized}
 use Rattle.format.proofs.LawsSoundWords.{counted-fit, Fitted, lengths-fitted, Moderate, words-fit, words-most}
-use Rattle.format.proofs.Decoded.{placed-sound, decode-sound}
-
-refused-not-accepted : {A : Type 0} {c n i : ℕ} {v : A} → refused c n i ≡ accepted v → ⊥
-refused-not-accepted e = let z : _≡_ {A = ℕ} 0 1 = cc in omega arith
+use Rattle.format.proofs.Decoded.{placed-sound, decode-sound, refused-not-accepted}
 
 -- A section's payload is bytes, at most n of them.
 record Held (n : ℕ) (s : Section) : Type 0 where

@@ -1,14 +1,14 @@
 -- What the writer answers: the image of the tables that are handed to it, which reads back as them; and lent no pool it
 -- answers as it would with one. Assumes nothing.
-use mathlib.Core.Path.{_≡_, refl, sym, ap, _∙_, subst}
-use Prim.Native.Nat.{ℕ, zero, suc, _^_, _≤_, _<_}
+use mathlib.Core.Path.{_≡_, refl, sym, ap, _∙_}
+use Prim.Native.Nat.{ℕ, _≤_}
 use native.Mathlib.Decide.{decLe}
 use native.Mathlib.Omega.{arith}
-use mathlib.Core.List.{List, [], _∷_, map}
+use mathlib.Core.List.{List}
 use mathlib.Core.Option.{Option, none, some}
 use lib.ListN.{length, replicate, length-replicate}
 use Rattle.exact.specs.Choice.{choose}
-use Rattle.exact.proofs.LawsChoice.{choose-yes, choose-no}
+use Rattle.exact.proofs.LawsChoice.{choose-yes}
 use Rattle.enums.specs.Refusals as refusals
 use Rattle.format.specs.Tables.{Tables}
 use Rattle.format.specs.Read.{accepted}
@@ -24,7 +24,7 @@ use Rattle.format.proofs.LawsStarts.{starts-fit}
 use Rattle.format.proofs.Sheets.{sheet-judged, judged-pool}
 use Rattle.format.proofs.Images.{image-read}
 
-refuses-not-writes : {c : ℕ} {bs : List ℕ} → refuses c ≡ writes bs → ⊥
+pub refuses-not-writes : {c : ℕ} {bs : List ℕ} → refuses c ≡ writes bs → ⊥
 refuses-not-writes e = let z : _≡_ {A = ℕ} 0 1 = cc in omega arith
 
 -- What is written is the image of tables whose starts and image fit.
@@ -106,10 +106,6 @@ imaged-alike t u e = go (starts32? t) (starts32? u) (decLe (length (image t)) mo
     go (yes a) (no b) c d = absurd (b (starts-same t u e a))
     go (no a) (yes b) c d = absurd (a (starts-same u t (sym e) b))
     go (no a) (no b) c d = refused-too
-
-zeros-fit : (n : ℕ) → All (Fits 8) (replicate n 0)
-zeros-fit zero = tt
-zeros-fit (suc n) = let z : 0 < 2 ^ 8 = omega arith in (z, zeros-fit n)
 
 -- A call lent no pool answers as one that is lent any pool of the right length.
 pub alone-alike : (sheet pool : List ℕ) (r : Frame) → judged sheet ≡ some r → length pool ≡ poolLength r → All (Fits 8) pool →

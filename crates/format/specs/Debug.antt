@@ -7,13 +7,9 @@ use Rattle.exact.specs.Repeat.{Many}
 use Rattle.exact.specs.Tiling.{Tiled}
 use Rattle.exact.specs.Entries.{Rows, Entries}
 use Rattle.enums.specs.Container.{P}
+use Rattle.enums.specs.Debug.{fieldCounts}
 use Rattle.format.specs.Tables.{Attribute}
 use Rattle.format.specs.Items.{Number, Padded}
-
--- The number of varints behind each tag, in the tags' order: Unknown, DICompileUnit, DIFile, DILexicalBlock, DILoc,
--- DISubprogram, CallSite.
-abbrev pub fieldCounts : List ℕ
-fieldCounts = 0 ∷ 1 ∷ 2 ∷ 4 ∷ 4 ∷ 6 ∷ 2 ∷ []
 
 -- An attribute with these fields; those that are absent are 0.
 abbrev pub attributeOf : ℕ → List ℕ → Attribute

@@ -17,9 +17,10 @@ use Rattle.exact.specs.Refuse.{refuse}
 use Rattle.exact.specs.Upto.{upto}
 use Rattle.exact.specs.Entries.{Rows, entries}
 use Rattle.enums.specs.Refusals as refusals
+use Rattle.enums.specs.Debug.{fieldCounts}
 use Rattle.reading.specs.Numbers.{varintAt}
 use Rattle.format.specs.Tables.{Attribute}
-use Rattle.format.specs.Debug.{fieldCounts, attributeOf, DebugTables}
+use Rattle.format.specs.Debug.{attributeOf, DebugTables}
 use Rattle.format.specs.DecodeTables.{paddedAt, shape}
 
 -- An attribute; a tag that is not known is refused at its byte.

@@ -15,9 +15,10 @@ use Rattle.exact.specs.Upto.{upto}
 use Rattle.enums.specs.Refusals as refusals
 use Rattle.enums.specs.Types as tags
 use Rattle.enums.specs.declared.VersionClass.{VersionClass}
+use Rattle.enums.specs.Version.{since13·3, since13·4}
 use Rattle.reading.specs.Numbers.{varintAt, countedAt}
 use Rattle.format.specs.Tables.{TypeRow, plain, pointer, tile, tensorView, partitionView, gatherScatterView, stridedView, function}
-use Rattle.format.specs.Items.{truth, since13·3, since13·4}
+use Rattle.format.specs.Items.{truth}
 use Rattle.format.specs.Types.{plainTags, among, Pointer, Tile, TensorView, PartitionView, OldPartitionView, GatherScatterView, StridedView, FunctionType, valuesOf}
 use Rattle.format.specs.DecodeTables.{fieldAt, indicesAt, offsetTableAt}
 

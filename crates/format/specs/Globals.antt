@@ -8,9 +8,10 @@ use Rattle.exact.specs.Exact.{Lang}
 use Rattle.exact.specs.Repeat.{Counted}
 use Rattle.exact.specs.Upto.{Upto}
 use Rattle.enums.specs.declared.VersionClass.{VersionClass}
+use Rattle.enums.specs.Version.{since13·3}
 use Rattle.encoding.specs.Varint.{Spells}
 use Rattle.format.specs.Tables.{Global}
-use Rattle.format.specs.Items.{Number, Byte, Field, Truth, since13·3}
+use Rattle.format.specs.Items.{Number, Byte, Field, Truth}
 
 -- One global.
 pub data GlobalRow (c : VersionClass) : ℕ → List ℕ → Global → Type 0 where

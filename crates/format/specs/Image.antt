@@ -24,6 +24,7 @@ use Rattle.enums.specs.Container.{
   producerId,
 }
 use Rattle.enums.specs.Types.{tagPointer, tagTile, tagTensorView, tagPartitionView, tagFunc, tagGatherScatterView, tagStridedView}
+use Rattle.enums.specs.Debug.{fieldCounts}
 use Rattle.encoding.specs.Varint.{spelling}
 use Rattle.encoding.specs.Out.{flat, countedBytes}
 use Rattle.format.specs.Tables.{
@@ -42,7 +43,6 @@ use Rattle.format.specs.Tables.{
   Attribute,
   Tables,
 }
-use Rattle.format.specs.Debug.{fieldCounts}
 use Rattle.format.specs.Explains.{class}
 use Rattle.format.specs.Sheet.{attributeFields}
 use Rattle.format.specs.Sound.{All, Fits}

@@ -3,7 +3,6 @@
 use mathlib.Core.Path.{_≡_}
 use Prim.Native.Nat.{ℕ, _+_, _%_}
 use native.Mathlib.Decide.{ℕ-discrete}
-use mathlib.Core.Bool.{Bool, true, false}
 use mathlib.Core.List.{List, [], _∷_, _++_}
 use lib.ListN.{length, replicate}
 use Rattle.exact.specs.Exact.{Lang}
@@ -12,8 +11,6 @@ use Rattle.exact.specs.Repeat.{Many, Counted}
 use Rattle.exact.specs.Fixed.{Fixed}
 use Rattle.exact.specs.Padding.{gap}
 use Rattle.enums.specs.Container.{P}
-use Rattle.enums.specs.declared.VersionClass.{VersionClass}
-use Rattle.enums.specs.declared.VersionClass.the-variants.{Below13_3, From13_3, From13_4}
 use Rattle.encoding.specs.Varint.{Spells}
 
 -- A varint, in any of its spellings.
@@ -54,14 +51,3 @@ pub data Truth (R : List ℕ → ℕ → Type 0) : List ℕ → ℕ → Type 0 w
 -- Bit 0 of the flags.
 abbrev pub Bit0 : ℕ → Type 0
 Bit0 flags = flags % 2 ≡ 1
-
--- The version classes from 13.3 on, and from 13.4 on.
-abbrev pub since13·3 : VersionClass → Bool
-since13·3 Below13_3 = false
-since13·3 From13_3 = true
-since13·3 From13_4 = true
-
-abbrev pub since13·4 : VersionClass → Bool
-since13·4 Below13_3 = false
-since13·4 From13_3 = false
-since13·4 From13_4 = true

@@ -8,6 +8,8 @@ use mathlib.Core.List.{List, [], _∷_}
 use mathlib.Core.Option.{Option, none, some}
 use lib.ListN.{length, drop, getD}
 use Rattle.enums.specs.declared.VersionClass.{VersionClass}
+use Rattle.enums.specs.Version.{since13·3, since13·4}
+use Rattle.enums.specs.Debug.{fieldCounts}
 use Rattle.format.specs.Tables.{
   Version,
   TypeRow,
@@ -23,10 +25,9 @@ use Rattle.format.specs.Tables.{
   Attribute,
   Tables,
 }
-use Rattle.format.specs.Items.{Bit0, since13·3, since13·4}
+use Rattle.format.specs.Items.{Bit0}
 use Rattle.format.specs.Types.{plainTags, among}
 use Rattle.format.specs.Functions.{NoHints}
-use Rattle.format.specs.Debug.{fieldCounts}
 use Rattle.format.specs.Explains.{class}
 use Rattle.format.specs.Sheet.{FunctionRow, Frame, frameOf, attributeFields, sheetOf, poolOf}
 

@@ -9,9 +9,10 @@ use Rattle.exact.specs.Sequence.{Of}
 use Rattle.exact.specs.Entries.{Rows}
 use Rattle.enums.specs.Types as tags
 use Rattle.enums.specs.declared.VersionClass.{VersionClass}
+use Rattle.enums.specs.Version.{since13·3, since13·4}
 use Rattle.encoding.specs.Varint.{Spells}
 use Rattle.format.specs.Tables.{TypeRow, plain, pointer, tile, tensorView, partitionView, gatherScatterView, stridedView, function}
-use Rattle.format.specs.Items.{Byte, Field, Array, Indices, Truth, Bit0, since13·3, since13·4}
+use Rattle.format.specs.Items.{Byte, Field, Array, Indices, Truth, Bit0}
 use Rattle.format.specs.Strings.{OffsetTable}
 
 -- The sixteen scalars and Token: nothing follows their tag.

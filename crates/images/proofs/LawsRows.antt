@@ -1,7 +1,7 @@
 -- Steps that copy the words of a row and its run put the row, and rows one after the other put a table's.
 -- Assumes nothing.
 use mathlib.Core.Path.{_≡_, refl, sym, ap, ap₂, _∙_, subst}
-use Prim.Native.Nat.{ℕ, zero, suc, max, _+_, _-_, _%_, _^_, _≤_, _<_}
+use Prim.Native.Nat.{ℕ, _+_, _-_, _%_, _^_, _≤_, _<_}
 use native.Mathlib.Nat.{add-zero, mod-eq-of-lt}
 use native.Mathlib.Omega.{arith}
 use mathlib.Core.List.{List, [], _∷_, _++_, map, append-nil}
@@ -9,8 +9,9 @@ use lib.ListN.{length, getD, take, drop, length-drop, take-append-drop}
 use lib.Seq.{length-take-le}
 use Rattle.exact.specs.Tiling.{join}
 use Rattle.enums.specs.declared.VersionClass.{VersionClass}
+use Rattle.enums.specs.Debug.{fieldCounts}
+use Rattle.enums.proofs.LawsDebug.{counts-few}
 use Rattle.format.specs.Tables.{Attribute}
-use Rattle.format.specs.Debug.{fieldCounts}
 use Rattle.format.specs.Sheet.{attributeFields, attributeWords}
 use Rattle.format.specs.Sound.{All, SoundAttribute}
 use Rattle.format.specs.Image.{varints, attributeBytes}
@@ -103,37 +104,14 @@ pub rows-more : {c : VersionClass} {k : Row} {s pool : List ℕ} {p q r : Pen} {
     RowCopied c k s pool p out mid q → RowsCopied c k (n - 1) s pool q mid out' r → RowsCopied c k n s pool p out out' r
 rows-more {c} {k} n z f g = record { each = more-each c k n z f g }
 
-most : List ℕ → ℕ
-most [] = 0
-most (x ∷ l) = max x (most l)
-
-most-at : (l : List ℕ) (i : ℕ) → getD l i 0 ≤ most l
-unfolding most
-most-at [] i = omega arith
-most-at (x ∷ l) zero = omega arith
-most-at (x ∷ l) (suc i) = omega (arith, most-at l i)
-
--- No attribute has more than six fields.
-pub count-bound : (tag : ℕ) → getD fieldCounts tag 0 ≤ 6
-unfolding most
-count-bound tag = most-at fieldCounts tag
-
-getD-past : (l : List ℕ) (i : ℕ) → length l ≤ i → getD l i 0 ≡ 0
-getD-past [] i h = refl
-getD-past (x ∷ l) zero h = absurd (omega arith)
-getD-past (x ∷ l) (suc i) h = getD-past l i (omega arith)
-
--- A tag past the table has none.
-pub count-past : (tag : ℕ) → 7 ≤ tag → 0 ≡ getD fieldCounts tag 0
-count-past tag h = sym (getD-past fieldCounts tag h)
-
 -- A tag, its fields, and the fields that it does not have.
 pub attribute-copied : {s pool : List ℕ} {p q r v : Pen} {out mid last out' : List ℕ} {tag n : ℕ} (a : Attribute) → SoundAttribute a →
-    tag ≡ getD (wordsIn s) (p .word) 0 → n ≡ getD fieldCounts tag 0 → n ≤ 6 → NumberCopied Byte s p out mid q →
+    tag ≡ getD (wordsIn s) (p .word) 0 → n ≡ getD fieldCounts tag 0 → NumberCopied Byte s p out mid q →
     NumbersCopied Varint n s q mid last r → NumbersCopied Absent (6 - n) s r last out' v →
     Copied (attributeWords a) [] (attributeBytes a) s pool p out out' v
 unfolding attributeWords attributeBytes attributeFields
-attribute-copied {pool = pool} {n = n} a h e m b x y z =
+attribute-copied {pool = pool} {tag = tag} {n = n} a h e m x y z =
+    let b : n ≤ 6 = omega (arith, m, counts-few tag) in
     let t : a .tag < 256 = let k = h .tag-known in omega arith in
     copied-knowing
     (λ l.

@@ -14,11 +14,11 @@ use Rattle.exact.specs.Tiling.{join, sums}
 use Rattle.exact.proofs.LawsTiling.{length-sums}
 use Rattle.exact.proofs.LawsPadding.{gap-less}
 use Rattle.enums.specs.declared.VersionClass.{VersionClass}
+use Rattle.enums.specs.Debug.{fieldCounts}
 use Rattle.encoding.specs.Varint.{spelling}
 use Rattle.encoding.proofs.LawsVarint.{spelling-ten}
 use Rattle.encoding.proofs.LawsArray.{length-flat}
 use Rattle.format.specs.Tables.{TypeRow, plain, pointer, tile, tensorView, partitionView, gatherScatterView, stridedView, function}
-use Rattle.format.specs.Debug.{fieldCounts}
 use Rattle.format.specs.Sheet.{fieldWords, typeWords, globalWords, functionRowOf, functionWords, attributeFields, attributeWords}
 use Rattle.format.specs.Sound.{All}
 use Rattle.format.specs.Tests.{bit0?, since3?, since4?}

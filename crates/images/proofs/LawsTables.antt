@@ -180,10 +180,6 @@ starts-more {c} {k} {w} {s} n h {start = start} {next = next} {r = r} {start' = 
           starts-more-each c k w n start h x f eu es (subst (λ o. StartsPut c k w (n - 1) s (z .word) start' next o out' r) e g);
     }
 
--- An output of no bytes in front of another changes nothing.
-pub in-front : (l out : List ℕ) → length l ≡ 0 → l ++ out ≡ out
-in-front l out e = ap (λ x. x ++ out) (no-length l e)
-
 -- Starts that count bytes are running sums.
 pub starts-sums : (k : Row) → ((m : ℕ) → inUnits k m ≡ m) → (n : ℕ) (es : List (List ℕ)) → startsFrom k n es ≡ sums n es
 unfolding startsFrom

@@ -13,16 +13,15 @@ use Rattle.exact.specs.Choice.{choose}
 use Rattle.exact.specs.Fixed.{bytesOf}
 use Rattle.exact.proofs.LawsChoice.{choose-yes, choose-no}
 use Rattle.enums.specs.declared.VersionClass.{VersionClass}
-use Rattle.enums.specs.declared.VersionClass.the-variants.{Below13_3, From13_4}
 use Rattle.enums.specs.Types.{tagPointer, tagTile, tagTensorView, tagPartitionView, tagFunc, tagGatherScatterView, tagStridedView}
+use Rattle.enums.specs.Version.{since13·3}
 use Rattle.encoding.specs.Varint.{spelling}
 use Rattle.encoding.specs.Out.{flat, countedBytes}
 use Rattle.format.specs.Tables.{TypeRow, plain, pointer, tile, tensorView, partitionView, gatherScatterView, stridedView, function}
-use Rattle.format.specs.Items.{since13·3, since13·4}
 use Rattle.format.specs.Types.{plainTags, among}
 use Rattle.format.specs.Sheet.{countedWords, fieldWords, typeWords}
 use Rattle.format.specs.Sound.{SoundType}
-use Rattle.format.specs.Tests.{bit0?, since3?, since4?}
+use Rattle.format.specs.Tests.{bit0?, since3?}
 use Rattle.format.specs.Image.{varints, countedVarints, onlyWhere, optionalByte, partitionBytes, typeBytes}
 use Rattle.sheet.specs.Store.{wordsIn}
 use Rattle.images.specs.Put.{Wrote}
@@ -134,29 +133,17 @@ pub present-copied : {r : Number} {s : List ℕ} {p q : Pen} {out out' : List �
 present-copied bits flags i e x pool v =
     varint-where (ℕ-discrete flags 1) (e ∙ ap (λ b. choose (ℕ-discrete b 1) Varint Absent) i) x pool v
 
--- The classes that have the fields of 13.3 and 13.4.
-pub below-3 : (k : Number) → choose (since3? Below13_3) k Absent ≡ Absent
-below-3 k = choose-no (since3? Below13_3) k Absent (λ e. false≢true e)
-
-pub from-3 : (c : VersionClass) (k : Number) → since13·3 c ≡ true → choose (since3? c) k Absent ≡ k
-from-3 c k e = choose-yes (since3? c) k Absent e
-
-pub below-4 : (c : VersionClass) (k : Number) → since13·4 c ≡ false → choose (since4? c) k Absent ≡ Absent
-below-4 c k e = choose-no (since4? c) k Absent (λ h. false≢true (sym e ∙ h))
-
-pub from-4 : (k : Number) → choose (since4? From13_4) k Absent ≡ k
-from-4 k = choose-yes (since4? From13_4) k Absent refl
-
 module _ {s : List ℕ} {p q : Pen} {out out' : List ℕ} where
   -- A partition view, by the version class.
-  pub partition-old : OldPartitionViewCopied s p out out' q → PartitionViewCopied Below13_3 s p out out' q
+  pub partition-old : (c : VersionClass) → since13·3 c ≡ false → OldPartitionViewCopied s p out out' q →
+      PartitionViewCopied c s p out out' q
   unfolding partitionBytes
-  partition-old x =
+  partition-old c e x =
       record {
         each =
             λ pool flags shape view dims padding h k.
-            copied-as (sym (choose-no (since3? Below13_3) _ _ (λ e. false≢true e)))
-            (x .each pool flags shape view dims padding (elim h [ inl e ↦ absurd (false≢true e) | inr l ↦ l ]));
+            copied-as (sym (choose-no (since3? c) _ _ (λ n. false≢true (sym e ∙ n))))
+            (x .each pool flags shape view dims padding (elim h [ inl n ↦ absurd (false≢true (sym e ∙ n)) | inr l ↦ l ]));
       }
 
   pub partition-new : (c : VersionClass) → since13·3 c ≡ true → NewPartitionViewCopied s p out out' q →

@@ -1,7 +1,7 @@
 -- What the writer needs of a sheet that was judged, and what it leaves: the image, as long as it is. Assumes nothing.
 use mathlib.Core.Path.{_≡_, refl, sym, ap, _∙_, subst}
 use mathlib.Core.Logic.{inl, inr}
-use Prim.Native.Nat.{ℕ, zero, suc, _+_, _*_, _^_, _≤_, _<_}
+use Prim.Native.Nat.{ℕ, _+_, _*_, _^_, _≤_, _<_}
 use native.Mathlib.Nat.{zero-add}
 use native.Mathlib.Omega.{arith}
 use mathlib.Core.List.{List, [], _∷_, _++_, map, append-nil}
@@ -18,7 +18,7 @@ use Rattle.encoding.proofs.LawsArray.{length-flat}
 use Rattle.format.specs.Tables.{Function, Tables}
 use Rattle.format.specs.Explains.{class}
 use Rattle.format.specs.Sheet.{Frame, poolLength, sheetOf, poolOf}
-use Rattle.format.specs.Sound.{All, Fits, Sound}
+use Rattle.format.specs.Sound.{All, Sound}
 use Rattle.format.specs.Judge.{judged, cutting, tablesOf}
 use Rattle.format.specs.Image.{
   typeBytes,
@@ -45,6 +45,7 @@ use Rattle.format.specs.Image.{
 use Rattle.format.proofs.LawsImageSizes.{back-le, table-le}
 use Rattle.format.proofs.LawsImageSizes as image-sizes
 use Rattle.format.proofs.Sheets.{sheet-judged, judged-pool}
+use Rattle.format.proofs.LawsSoundItems.{zeros-fit}
 use Rattle.sheet.specs.Store.{wordsIn}
 use Rattle.images.specs.Put.{Lies}
 use Rattle.images.specs.Rows.{rowRun, rowBytes}
@@ -189,10 +190,6 @@ holds-judged s pool out t e fw fp =
       },
       image-fits t (j .2) aw bp,
     )
-
-pub zeros-fit : (n : ℕ) → All (Fits 8) (replicate n 0)
-zeros-fit zero = tt
-zeros-fit (suc n) = (omega arith, zeros-fit n)
 
 -- .. and so does a sheet alone, with a pool of zeros, where there is no output.
 pub holds-alone : (s pool : List ℕ) (r : Frame) → judged (wordsIn s) ≡ some r → length (wordsIn s) ≤ 2 ^ 26 → poolLength r ≤ 2 ^ 32 →

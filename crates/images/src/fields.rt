@@ -65,10 +65,10 @@ pub fn if_present(presence: u64, number: Number) -> Number
 pub fn since_13_3(class: VersionClass, number: Number) -> Number
     ensures { λ r. ⌜ r ≡ choose (since3? «class») number kinds.Absent ⌝ }
 {
-    match class {
-        VersionClass::Below13_3 => Number::Absent,
-        VersionClass::From13_3 => number,
-        VersionClass::From13_4 => number,
+    if class.from_13_3() {
+        number
+    } else {
+        Number::Absent
     }
 }
 
@@ -76,10 +76,10 @@ pub fn since_13_3(class: VersionClass, number: Number) -> Number
 pub fn since_13_4(class: VersionClass, number: Number) -> Number
     ensures { λ r. ⌜ r ≡ choose (since4? «class») number kinds.Absent ⌝ }
 {
-    match class {
-        VersionClass::Below13_3 => Number::Absent,
-        VersionClass::From13_3 => Number::Absent,
-        VersionClass::From13_4 => number,
+    if class.from_13_4() {
+        number
+    } else {
+        Number::Absent
     }
 }
 

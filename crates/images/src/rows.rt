@@ -1,8 +1,4 @@
 // The rows of the tables: each becomes its bytes of the file, and the rows of a table stand one behind the other.
-ghost use mathlib.Core.Path.{_≡_};
-ghost use Prim.Native.Nat.{_≤_};
-ghost use lib.ListN.{getD};
-ghost use Rattle.format.specs.Debug.{fieldCounts};
 ghost use Rattle.images.specs.declared.rows.Row.the-variants as kinds;
 ghost use Rattle.images.specs.Rows.{RunTaken, RowCopied, RowsCopied};
 use crate::fields::Number;
@@ -12,6 +8,7 @@ use crate::fields::copy_numbers;
 use crate::fields::since_13_3;
 use crate::put::put_pool;
 use crate::types::put_type;
+use enums::DebugTag;
 use enums::VersionClass;
 
 // The kinds of rows. Strings and constants are runs of the pool.
@@ -22,19 +19,6 @@ pub enum Row {
     Function,
     Attribute,
     List,
-}
-
-// The number of varints behind each debug tag; the other fields of the sheet's six are 0 and are not written.
-const FIELD_COUNTS: [u64; 7] = [0, 1, 2, 4, 4, 6, 2];
-
-fn field_count(tag: u64) -> u64
-    ensures { λ r. ⌜ r ≡ getD fieldCounts tag 0 ⌝ }
-    ensures { λ r. ⌜ r ≤ 6 ⌝ }
-{
-    if tag < 7 {
-        return FIELD_COUNTS[tag as usize];
-    }
-    0
 }
 
 // Puts the next `len` bytes of the pool.
@@ -84,7 +68,7 @@ fn put_function(sheet: &[u8], pool: &[u8], class: VersionClass, out: &mut [u8], 
 fn put_attribute(sheet: &[u8], pool: &[u8], class: VersionClass, out: &mut [u8], pen: Pen) -> Pen
     ensures { λ r. ⌜ RowCopied «class» kinds.Attribute (now (sheet .entry)) (now (pool .entry)) pen (now (out .entry)) (now (out .exit)) r ⌝ }
 {
-    let count = field_count(sheet::word_at(sheet, pen.word));
+    let count = DebugTag::field_count(sheet::word_at(sheet, pen.word));
     let tag = copy_number(sheet, Number::Byte, out, pen);
     let fields = copy_numbers(sheet, Number::Varint, count, out, tag);
     copy_numbers(sheet, Number::Absent, 6 - count, out, fields)

@@ -71,11 +71,10 @@ fn old_partition_view(sheet: &[u8], out: &mut [u8], pen: Pen) -> Pen
 fn partition_view(sheet: &[u8], class: VersionClass, out: &mut [u8], pen: Pen) -> Pen
     ensures { λ r. ⌜ PartitionViewCopied «class» (now (sheet .entry)) pen (now (out .entry)) (now (out .exit)) r ⌝ }
 {
-    match class {
-        VersionClass::Below13_3 => old_partition_view(sheet, out, pen),
-        VersionClass::From13_3 => new_partition_view(sheet, out, pen),
-        VersionClass::From13_4 => new_partition_view(sheet, out, pen),
+    if class.from_13_3() {
+        return new_partition_view(sheet, out, pen);
     }
+    old_partition_view(sheet, out, pen)
 }
 
 fn gather_scatter_view(sheet: &[u8], out: &mut [u8], pen: Pen) -> Pen

@@ -1,7 +1,6 @@
 -- A type's fields by the tag, and the count before them. Assumes nothing.
 use mathlib.Core.Path.{_≡_, refl, sym, ap, _∙_}
-use Prim.Native.Nat.{ℕ, zero, suc, _+_, _-_, _≤_, _<_}
-use native.Mathlib.Nat.{not-suc-le-zero}
+use Prim.Native.Nat.{ℕ, _+_, _-_, _≤_, _<_}
 use native.Mathlib.Decide.{decLt, ℕ-discrete}
 use native.Mathlib.Omega.{arith}
 use mathlib.Core.Bool.{Bool, true, false, _||_, _&&_}
@@ -118,23 +117,6 @@ unknown-steps c t l at h n = kind-as c l at (sym unknown) (none at)
     none : (at : Place) → Stop ≡ kept (soundType c (fail refusals.unsound)) l at
     none Stop = simp kept-none
     none (At i left) = simp (kept-at, thru-checked)
-
--- What a test computes of every number below n.
-abbrev pub upTo : ℕ → (ℕ → Bool) → Bool
-upTo zero f = true
-upTo (suc n) f = f n && upTo n f
-
-pub up-to : (n : ℕ) (f : ℕ → Bool) → upTo n f ≡ true → (t : ℕ) → t < n → f t ≡ true
-up-to zero f e t h = absurd (not-suc-le-zero h)
-up-to (suc n) f e t h =
-    let b = both-true (f n) (upTo n f) e in
-    elim (ℕ-discrete t n) [ yes q ↦ rw q (b .0) | no q ↦ up-to n f (b .1) t (omega arith) ]
-
--- .. and the low ones.
-pub plain-low : (t : ℕ) → t < 20 → ¬ (t ≡ 12) → ¬ (t ≡ 13) → ¬ (t ≡ 14) → ¬ (t ≡ 15) → ¬ (t ≡ 16) → among t plainTags ≡ true
-plain-low t h a b c d e =
-    let k = up-to 20 (λ t. eqb t 12 || (eqb t 13 || (eqb t 14 || (eqb t 15 || (eqb t 16 || among t plainTags))))) refl t h in
-    rw (ne-eqb t 12 a, ne-eqb t 13 b, ne-eqb t 14 c, ne-eqb t 15 d, ne-eqb t 16 e) at k
 
 -- Tag and fields are as many words as they say.
 flat-is : {A : Type 0} {f : A → List ℕ} {P : A → Type 0} (i : ℕ) (ws : List ℕ) (v : A) → Flat f P i ws v → ws ≡ f v

@@ -6,7 +6,7 @@ use native.Mathlib.Nat.{add-zero, not-suc-le-zero, le-of-suc-le-suc}
 use native.Mathlib.Decide.{ℕ-discrete}
 use native.Mathlib.Omega.{arith}
 use mathlib.Core.List.{List, [], _∷_, map}
-use mathlib.Core.Option.{Option, none, some}
+use mathlib.Core.Option.{Option, none, some, Option·none-ne-some}
 use lib.ListN.{length, take, drop, getD, length-append, List·getD-append}
 use lib.Seq.{drop-drop, drop-at}
 use Rattle.exact.specs.Choice.{choose}
@@ -14,7 +14,7 @@ use Rattle.exact.specs.Tiling.{join}
 use Rattle.format.specs.Sheet.{Frame, bodies, contents, poolLength, wordsOf}
 use Rattle.format.specs.Sound.{All, Fits, SoundFrame, classIn}
 use Rattle.format.specs.Judge.{judged}
-use Rattle.format.proofs.LawsFrame.{judged-exact, none-not-some}
+use Rattle.format.proofs.LawsFrame.{judged-exact}
 use Rattle.sheet.specs.Store.{wordsIn}
 use Rattle.judge.specs.declared.Judged.{Judged}
 use Rattle.judge.specs.declared.SheetJudged.{SheetJudged}
@@ -38,7 +38,7 @@ judged-holds s r = go (ℕ-discrete (length s % 8) 0)
   where
     go : (d : Dec (length s % 8 ≡ 0)) → choose d (judged (wordsIn s)) none ≡ some r → Holds s r
     go (yes h) e = let x = judged-exact (wordsIn s) r .0 e in record { whole = h; words = x .0; fits = x .1; sound = x .2 }
-    go (no h) e = absurd (none-not-some e)
+    go (no h) e = absurd (Option·none-ne-some _ e)
 
 -- .. and what `judge` tells is of that frame.
 pub record Passes (s : List ℕ) (j : Judged) : Type 0 where

@@ -7,27 +7,27 @@ use native.Mathlib.Omega.{arith}
 use mathlib.Core.Bool.{Bool, true, false, _||_}
 use mathlib.Core.List.{List, [], _∷_}
 use lib.Dec.{eqb, ltb, leb}
-use lib.ListN.{length, take, drop, getD, length-drop, drop-of-length-le}
-use lib.Seq.{getD-take, getD-drop, drop-cons, drop-drop, length-take-le}
-use borrow.Author.Tests.{lt-ltb, le-ltb, leb-true}
+use lib.ListN.{length, take, drop, getD, length-drop}
+use lib.Seq.{getD-take, getD-drop, drop-drop, length-take-le, take-nil}
+use borrow.Author.Tests.{lt-ltb, le-ltb}
 use Rattle.exact.specs.Exact.{Parser}
 use Rattle.exact.specs.Repeat.{times}
 use Rattle.exact.specs.Fixed.{raw}
 use Rattle.enums.specs.declared.VersionClass.{VersionClass}
-use Rattle.format.specs.Items.{since13·3}
+use Rattle.enums.specs.Version.{since13·3}
+use Rattle.enums.specs.Debug.{fieldCounts}
+use Rattle.enums.proofs.LawsDebug.{counts-few}
 use Rattle.format.specs.Tables.{Global, Attribute}
 use Rattle.format.specs.Sheet.{FunctionRow, attributeFields}
-use Rattle.format.specs.Debug.{fieldCounts}
 use Rattle.format.specs.Tests.{global?, function?, attribute?}
 use Rattle.format.specs.Judge.{word, globalAt, functionAt, attributeAt}
-use Rattle.format.proofs.LawsFrame.{part}
+use Rattle.format.proofs.LawsFrame.{part-all}
 use Rattle.judge.specs.declared.steps.Place.{Place}
 use Rattle.judge.specs.declared.steps.Place.the-variants.{At, Stop}
 use Rattle.judge.specs.Steps.{thru, only, holds, kept, spent, valueAt, between, allUpTo}
 use Rattle.judge.proofs.LawsThru.{thru-bind, thru-map, thru-such, thru-pure, only-and, kept-at, kept-none, only-none}
 use Rattle.judge.proofs.LawsTests.{holds-same, holds-both, holds-only, holds-since3, holds-fits, holds-lt, holds-eq, holds-zeros}
 use Rattle.judge.proofs.LawsSteps.{word-at, word-end, words-at, words-end, times-raw, only-true, only-false}
-use Rattle.judge.proofs.LawsKinds.{up-to}
 
 -- A row of these words.
 abbrev pub globalFrom : List ℕ → Global
@@ -147,18 +147,10 @@ module _ (l : List ℕ) where
 drop-taken : (n m : ℕ) (l : List ℕ) → n ≤ m → drop n (take m l) ≡ take (m - n) (drop n l)
 drop-taken zero m l h = let e : m - 0 ≡ m = omega arith in rw e
 drop-taken (suc n) zero l h = absurd (not-suc-le-zero h)
-drop-taken (suc n) (suc m) [] h = sym (nil (suc m - suc n))
-  where
-    nil : (k : ℕ) → take {A = ℕ} k [] ≡ []
-    nil zero = refl
-    nil (suc k) = refl
+drop-taken (suc n) (suc m) [] h = sym (take-nil (suc m - suc n))
 drop-taken (suc n) (suc m) (x ∷ l) h =
     let e : suc m - suc n ≡ m - n = omega arith in
     rw e (drop-taken n m l (le-of-suc-le-suc h))
-
-part-all : (n k : ℕ) (l : List ℕ) → length l ≡ k + n → drop k l ≡ part n k l
-part-all zero k l e = drop-of-length-le l {i = k} (omega arith)
-part-all (suc n) k l e = drop-cons l k 0 (omega arith) ∙ ap (λ x. getD l k 0 ∷ x) (part-all n (suc k) l (omega arith))
 
 fields-are : (ws : List ℕ) → length ws ≡ 7 → attributeFields (attributeFrom ws) ≡ drop 1 ws
 unfolding attributeFields
@@ -170,9 +162,6 @@ module _ (l : List ℕ) (i n : ℕ) (h : 7 ≤ length l - i) (m : n ≤ 6) where
       let q : length (take 7 (drop i l)) ≡ 7 = length-take-le 7 (drop i l) (rw length-drop h) in
       let d : i + 7 - (i + (1 + n)) ≡ 7 - (1 + n) = omega arith in
       rw (fields-are (take 7 (drop i l)) q, drop-drop, d, drop-taken (1 + n) 7 (drop i l) (omega arith), drop-drop)
-
-pub counts-few : (t : ℕ) → t < 7 → getD fieldCounts t 0 ≤ 6
-counts-few t h = leb-true _ _ (up-to 7 (λ t. leb (getD fieldCounts t 0) 6) refl t h)
 
 attribute-tests : (ws : List ℕ) (o : Place) →
     only Stop (holds (attribute? (attributeFrom ws))) o ≡
@@ -206,7 +195,7 @@ module _ (l : List ℕ) where
       elim (decLe 7 (length l - i)) [
         | yes m ↦
             let w = tag-is i e in
-            let few : n ≤ 6 = omega (arith, counts-few tag (omega arith)) in
+            let few : n ≤ 6 = omega (arith, counts-few tag) in
             let k : 1 + n ≤ length l - i = omega arith in
             let t : ltb (getD (take 7 (drop i l)) 0 0) 7 ≡ true = lt-ltb (getD (take 7 (drop i l)) 0 0) 7 (omega arith) in
             let f = attributeFields (attributeFrom (take 7 (drop i l))) in

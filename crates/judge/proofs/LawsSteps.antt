@@ -8,7 +8,7 @@ use native.Mathlib.Decide.{decLt, decLe}
 use mathlib.Core.Bool.{Bool, true, false, _&&_, _||_}
 use mathlib.Core.List.{List, _∷_}
 use lib.Dec.{eqb, ltb, leb}
-use lib.ListN.{length, take, drop, getD, drop-of-length-le}
+use lib.ListN.{length, take, drop, getD, drop-of-length-le, List·getD-eq-default}
 use lib.Seq.{drop-cons}
 use borrow.Author.Tests.{le-leb, lt-leb}
 use Rattle.exact.specs.Got.{Got, got, stop}
@@ -18,7 +18,7 @@ use Rattle.exact.specs.Fixed.{raw}
 use Rattle.exact.proofs.LawsSteps.{byte-at, byte-end, raw-at, raw-end}
 use Rattle.format.specs.Judge.{word, listAt}
 use Rattle.sheet.specs.Store.{wordsIn}
-use Rattle.sheet.proofs.LawsWords.{length-wordsIn, getD-end}
+use Rattle.sheet.proofs.LawsWords.{length-wordsIn}
 use Rattle.judge.specs.declared.steps.Place.{Place}
 use Rattle.judge.specs.declared.steps.Place.the-variants.{At, Stop}
 use Rattle.judge.specs.Steps.{thru, only, kept, spent, valueAt, between, distance, allUpTo, smallList, optional}
@@ -149,7 +149,7 @@ module _ (most : ℕ) (l : List ℕ) (i end : ℕ) where
   up-to-not e h k =
       elim (decLt i (length l)) [
         | yes m ↦ sym (up-to-next (end - (i + 1)) m (omega arith) ∙ rw (lt-leb (getD l i 0) most (omega arith)))
-        | no m ↦ let z = getD-end l i (omega arith) in absurd (omega arith)
+        | no m ↦ let z = List·getD-eq-default l 0 {n = i} (omega arith) in absurd (omega arith)
       ]
 
 -- A list of small numbers.

@@ -9,7 +9,7 @@ use lib.Dec.{eqb, ltb, leb}
 use borrow.Author.Tests.{lt-ltb, le-ltb, le-leb, lt-leb, eq-eqb, ne-eqb}
 use Rattle.enums.specs.declared.VersionClass.{VersionClass}
 use Rattle.enums.specs.declared.VersionClass.the-variants.{Below13_3, From13_3, From13_4}
-use Rattle.format.specs.Items.{since13·3, since13·4}
+use Rattle.enums.specs.Version.{since13·3, since13·4}
 use Rattle.format.specs.Tests.{same?, both?, either?, not?, all?, onlyIf?, since3?, since4?, bit0?, fits?}
 use Rattle.judge.specs.Steps.{holds, allUpTo}
 

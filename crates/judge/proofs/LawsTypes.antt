@@ -6,7 +6,7 @@ use mathlib.Core.Bool.{false, not, _||_}
 use mathlib.Core.List.{List}
 use lib.Dec.{eqb, ltb}
 use Rattle.enums.specs.declared.VersionClass.{VersionClass}
-use Rattle.format.specs.Items.{since13·3, since13·4}
+use Rattle.enums.specs.Version.{since13·3, since13·4}
 use Rattle.format.specs.Tests.{type?, optionalByte?}
 use Rattle.format.specs.Judge.{word, listAt, pointerAt, tileAt, tensorViewAt, partitionViewAt, gatherScatterViewAt, stridedViewAt, functionTypeAt}
 use Rattle.judge.specs.declared.steps.Place.{Place}

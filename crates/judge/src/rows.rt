@@ -2,15 +2,12 @@
 // tables in their order, each of which has to start where the one before it has ended.
 ghost use mathlib.Core.Path.{_≡_};
 ghost use Prim.Native.Nat.{_<_};
-ghost use lib.ListN.{getD};
-ghost use Rattle.format.specs.Debug.{fieldCounts};
 ghost use Rattle.format.specs.Judge.{globalAt, functionAt, attributeAt};
 ghost use Rattle.sheet.specs.Store.{wordsIn};
 ghost use Rattle.judge.specs.Steps.{kept, spent};
 ghost use Rattle.judge.specs.Rows.{rowAfter, rowsAfter, startsAt, tableAfter, tablesAfter};
 use crate::steps::Place;
 use crate::steps::all_up_to;
-use crate::steps::from_13_3;
 use crate::steps::only_if;
 use crate::steps::pass_if;
 use crate::steps::pass_length;
@@ -18,6 +15,7 @@ use crate::steps::pass_list;
 use crate::steps::pass_words;
 use crate::steps::value_at;
 use crate::types::judge_type;
+use enums::DebugTag;
 use enums::FunctionFlag;
 use enums::VersionClass;
 
@@ -35,7 +33,7 @@ pub enum Rows {
 fn judge_global(sheet: &[u8], class: VersionClass, at: Place) -> Place
     ensures { λ r. ⌜ r ≡ kept (globalAt «class») (wordsIn (now (sheet .entry))) at ⌝ }
 {
-    let since = from_13_3(class);
+    let since = class.from_13_3();
     let visibility = value_at(sheet, pass_words(sheet, 4, at));
     let flag = value_at(sheet, pass_words(sheet, 5, at));
     let end = pass_words(sheet, 6, at);
@@ -56,16 +54,6 @@ fn judge_function(sheet: &[u8], at: Place) -> Place
     pass_length(sheet, pass_if(flags < 256, pass_if(hints == 0, body)))
 }
 
-// The number of fields of each debug tag; the sheet's other fields are 0.
-const FIELD_COUNTS: [u64; 7] = [0, 1, 2, 4, 4, 6, 2];
-
-fn field_count(tag: u64) -> u64
-    requires { ⌜ tag < 7 ⌝ }
-    ensures { λ r. ⌜ r ≡ getD fieldCounts tag 0 ⌝ }
-{
-    FIELD_COUNTS[tag as usize]
-}
-
 // A debug attribute: a known tag, and six fields, of which those beyond the tag's count are 0.
 fn judge_attribute(sheet: &[u8], at: Place) -> Place
     ensures { λ r. ⌜ r ≡ kept attributeAt (wordsIn (now (sheet .entry))) at ⌝ }
@@ -74,7 +62,7 @@ fn judge_attribute(sheet: &[u8], at: Place) -> Place
     if 6 < tag {
         return Place::Stop;
     }
-    let absent = pass_words(sheet, 1 + field_count(tag), at);
+    let absent = pass_words(sheet, 1 + DebugTag::field_count(tag), at);
     let end = pass_words(sheet, 7, at);
     pass_if(all_up_to(sheet, 0, absent, end), end)
 }

@@ -5,11 +5,9 @@ ghost use Prim.Native.Nat.{_%_};
 ghost use mathlib.Core.Bool.{_||_, _&&_};
 ghost use lib.Dec.{eqb, ltb};
 ghost use Rattle.exact.specs.Fixed.{raw};
-ghost use Rattle.format.specs.Items.{since13·3, since13·4};
 ghost use Rattle.format.specs.Judge.{listAt, word as oneWord};
 ghost use Rattle.sheet.specs.Store.{wordsIn};
 ghost use Rattle.judge.specs.Steps.{valueAt, only, kept, allUpTo, between, smallList, optional, spent};
-use enums::VersionClass;
 
 // How far a sheet is judged: the next word, and what the rows so far leave of the pool's length.
 pub enum Place {
@@ -137,27 +135,5 @@ pub fn pass_length(sheet: &[u8], from: Place) -> Place
                 left: left - length,
             }
         }
-    }
-}
-
-// Whether a version class is from 13.3 on ..
-pub fn from_13_3(class: VersionClass) -> bool
-    ensures { λ r. ⌜ r ≡ since13·3 «class» ⌝ }
-{
-    match class {
-        VersionClass::Below13_3 => false,
-        VersionClass::From13_3 => true,
-        VersionClass::From13_4 => true,
-    }
-}
-
-// .. and from 13.4 on.
-pub fn from_13_4(class: VersionClass) -> bool
-    ensures { λ r. ⌜ r ≡ since13·4 «class» ⌝ }
-{
-    match class {
-        VersionClass::Below13_3 => false,
-        VersionClass::From13_3 => false,
-        VersionClass::From13_4 => true,
     }
 }

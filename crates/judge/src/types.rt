@@ -7,8 +7,6 @@ ghost use Rattle.format.specs.Judge.{pointerAt, tileAt, tensorViewAt, partition
 ghost use Rattle.sheet.specs.Store.{wordsIn};
 ghost use Rattle.judge.specs.Steps.{kept, soundType, distance};
 use crate::steps::Place;
-use crate::steps::from_13_3;
-use crate::steps::from_13_4;
 use crate::steps::only_if;
 use crate::steps::pass_if;
 use crate::steps::pass_list;
@@ -22,7 +20,7 @@ fn pointer(sheet: &[u8], class: VersionClass, at: Place) -> Place
     ensures { λ r. ⌜ r ≡ kept (soundType «class» pointerAt) (wordsIn (now (sheet .entry))) at ⌝ }
 {
     let flags = value_at(sheet, at);
-    let start = pass_if(only_if(from_13_4(class), flags), at);
+    let start = pass_if(only_if(class.from_13_4(), flags), at);
     let element = pass_word(sheet, pass_word(sheet, start));
     pass_optional(sheet, flags, false, element)
 }
@@ -37,7 +35,7 @@ fn tensor_view(sheet: &[u8], class: VersionClass, at: Place) -> Place
     ensures { λ r. ⌜ r ≡ kept (soundType «class» tensorViewAt) (wordsIn (now (sheet .entry))) at ⌝ }
 {
     let flags = value_at(sheet, at);
-    let start = pass_if(only_if(from_13_4(class), flags), at);
+    let start = pass_if(only_if(class.from_13_4(), flags), at);
     let element = pass_word(sheet, pass_word(sheet, start));
     let strides = pass_list(sheet, pass_list(sheet, element));
     pass_optional(sheet, flags, false, strides)
@@ -54,7 +52,7 @@ fn presence_fits(since: bool, flags: u64) -> bool
 fn partition_view(sheet: &[u8], class: VersionClass, at: Place) -> Place
     ensures { λ r. ⌜ r ≡ kept (soundType «class» partitionViewAt) (wordsIn (now (sheet .entry))) at ⌝ }
 {
-    let since = from_13_3(class);
+    let since = class.from_13_3();
     let flags = value_at(sheet, at);
     let start = pass_if(presence_fits(since, flags), at);
     let shape = pass_small_list(sheet, pass_word(sheet, start));

@@ -15,31 +15,33 @@ use Rattle.exact.specs.Exact.{Parser}
 use Rattle.exact.specs.Basic.{byte, pure}
 use Rattle.exact.specs.Sequence.{bind}
 use Rattle.exact.specs.Sequence as sequence
-use Rattle.exact.specs.Choice.{choose}
 use Rattle.exact.specs.Repeat.{times}
-use Rattle.exact.specs.Fixed.{fixed, nums}
-use Rattle.exact.specs.Padding.{here, blamed, broke, pad}
+use Rattle.exact.specs.Fixed.{fixed}
+use Rattle.exact.specs.Padding.{here, pad}
 use Rattle.exact.specs.Refuse.{refuse}
 use Rattle.exact.specs.Upto.{upto}
 use Rattle.exact.specs.Tiling.{join, cut, endOf, consed, cuts}
-use Rattle.exact.specs.Entries.{Rows, raised, cutLeast, entry, entriesOf, rows, entries}
+use Rattle.exact.specs.Entries.{raised, cutLeast, entry, entriesOf, rows, entries}
 use Rattle.exact.proofs.LawsExact.{stop-not-got, got-value, got-next}
 use Rattle.exact.proofs.LawsChoice.{choose-yes, choose-no}
-use Rattle.exact.proofs.LawsSequence.{follow-inv, bind-got, bind-stop}
+use Rattle.exact.proofs.LawsSequence.{follow-inv, bind-got, bind-stop, follow-follow}
 use Rattle.exact.proofs.LawsSteps.{byte-at, byte-end}
 use Rattle.exact.proofs.LawsTiling.{cut-is}
+use Rattle.exact.proofs.LawsFixed.{length-nums}
 use Rattle.enums.specs.Container.{P}
 use Rattle.enums.specs.Refusals as refusals
-use Rattle.reading.specs.Numbers.{digits, varintAt, paddingAt}
+use Rattle.enums.specs.Debug.{fieldCounts}
+use Rattle.enums.proofs.LawsDebug.{counts-few}
+use Rattle.reading.specs.Numbers.{varintAt, paddingAt}
 use Rattle.reading.proofs.LawsNumbers.{varint-in, padding-exact}
-use Rattle.reading.proofs.LawsPlaced.{length-nums}
-use Rattle.reading.proofs.LawsInside.{exact-inside, byte-in}
+use Rattle.reading.proofs.LawsInside.{exact-inside, byte-in, varint-place}
 use Rattle.reading.specs.declared.Refused.{Refused}
 use Rattle.format.specs.Tables.{Attribute}
-use Rattle.format.specs.Debug.{fieldCounts, attributeOf, DebugTables}
+use Rattle.format.specs.Debug.{attributeOf, DebugTables}
 use Rattle.format.specs.Sheet.{attributeWords, attributeFields, listWords}
 use Rattle.format.specs.DecodeTables.{paddedAt, shape}
 use Rattle.format.specs.DecodeDebug.{attributeAt, attributesAt, listsAt, debugAt}
+use Rattle.format.proofs.LawsSoundWords.{attributes-words}
 use Rattle.sheet.specs.Store.{putWord, putWords}
 use Rattle.sheet.proofs.LawsStore.{putWords-append}
 use Rattle.payloads.specs.declared.answers.Filled.{Filled}
@@ -58,21 +60,8 @@ use Rattle.payloads.specs.declared.debug.DebugRead.{DebugRead}
 use Rattle.payloads.specs.declared.debug.DebugRead.the-variants as debug
 use Rattle.payloads.specs.DebugRows.{attributeRows, listRows, debugWords, counted, debugBehind, DebugFills}
 
--- No entry of a table is above the highest: one computed test gives the rule at each.
-abbrev most : List ℕ → ℕ
-most [] = 0
-most (x ∷ xs) = x + (most xs - x)
-
-most-at : (xs : List ℕ) (k : ℕ) → getD xs k 0 ≤ most xs
-most-at [] k = omega arith
-most-at (x ∷ xs) zero = omega arith
-most-at (x ∷ xs) (suc k) = omega (arith, most-at xs k)
-
-counts-six : (t : ℕ) → getD fieldCounts t 0 ≤ 6
-counts-six t = most-at fieldCounts t
-
 pub count-few : (l : List ℕ) (t j n : ℕ) → byte l 0 ≡ got t j → n ≡ getD fieldCounts t 0 → n ≤ 6
-count-few l t j n e f = omega (arith, f, counts-six t)
+count-few l t j n e f = omega (arith, f, counts-few t)
 
 -- An array: its count was refused ..
 module _ (w a : ℕ) (l : List ℕ) (i : ℕ) where
@@ -204,22 +193,12 @@ module _ (l s s₁ s₂ : List ℕ) (w t j n : ℕ) (e : byte l 0 ≡ got t j) (
   attribute-row b s' a p z v =
       let (vs, f, m, q) = fields-got _ b refl p in
       let k : length vs ≡ n = times-length n varintAt l j vs (b .pos) f in
-      let i : length vs ≤ 6 = omega (arith, counts-six t) in
+      let i : length vs ≤ 6 = omega (arith, counts-few t) in
       let o : oneAt l ≡ got (t ∷ (vs ++ replicate (6 - length vs) 0)) (length l) =
       one-got l t j e h vs (b .pos) (ap (λ n. times n varintAt l j) (sym c) ∙ f) ∙ ap (λ x. got x (length l)) (words-of t vs i) in
       let r : s' ≡ putWords (putWords s₁ (w + 1) vs) (w + 1 + length vs) (replicate (6 - length vs) 0) = rw (k, ← q) (rw (m, k) at z) in
       row-got _ w s s' _ _ o (omega (arith, length-append vs (replicate (6 - length vs) 0), length-replicate {A = ℕ} (6 - length vs) 0))
       (r ∙ sym (putWords-append vs (replicate (6 - length vs) 0) s₁ (w + 1)) ∙ ap (λ s. putWords s (w + 1) (vs ++ replicate (6 - length vs) 0)) a)
-
--- A place where reading varints is refused lies in the bytes.
-broke-place : (g : Got ℕ) (i c k : ℕ) → broke g i ≡ stop c k → k ≡ i
-unfolding broke
-broke-place (got v j) i c k e = absurd (stop-not-got (sym e))
-broke-place (stop d m) i c k e = cc
-
-varint-place : (l : List ℕ) (i c k : ℕ) → varintAt l i ≡ stop c k → k ≡ i
-unfolding varintAt blamed
-varint-place l i c k e = broke-place (digits 9 l i) i c k e
 
 rest-place : (l : List ℕ) (v : ℕ) (g : Got (List ℕ)) (c k : ℕ) → ((d m : ℕ) → g ≡ stop d m → m ≤ length l) →
     follow g (λ vs m. got (v ∷ vs) m) ≡ stop c k → k ≤ length l
@@ -302,9 +281,6 @@ row-more ws us j w s s₁ s' r e (x, y) =
 row-stopped : (c k w v : ℕ) (s t s' : List ℕ) (r : SpotRead) → Row (stop c k) w s s' r → Row (stop c k) v t s' r
 unfolding Row
 row-stopped c k w v s t s' r x = x
-
-pub row-told : (g : Got (List ℕ)) (w : ℕ) (s s' : List ℕ) {r x : SpotRead} → r ≡ x → Row g w s s' r → Row g w s s' x
-row-told g w s s' e h = subst (λ r. Row g w s s' r) e h
 
 pub put-told : (g : Got (ℕ × List ℕ)) (w : ℕ) (s s' : List ℕ) {r x : SpotRead} → r ≡ x → Put g w s s' r → Put g w s s' x
 put-told g w s s' e h = subst (λ r. Put g w s s' r) e h
@@ -530,11 +506,6 @@ entries-long c m p (s ∷ ss) b n d vs k e =
     let (us, i, x, y) = follow-inv (entriesOf c m p ss b n d) _ vs k g in
     sym (ap length (got-value y)) ∙ ap suc (entries-long c m p ss b n d us i x)
 
-words-long : (vs : List Attribute) → length (join (map attributeWords vs)) ≡ 7 * length vs
-words-long [] = refl
-words-long (v ∷ vs) =
-    omega (arith, length-append (attributeWords v) (join (map attributeWords vs)), attribute-long v, words-long vs)
-
 consed-long : (o : Option (List ℕ)) (p : Option (List (List ℕ))) (zs : List (List ℕ)) → consed o p ≡ some zs →
     (es : List (List ℕ)) × (p ≡ some es) × (length zs ≡ suc (length es))
 unfolding consed
@@ -584,7 +555,7 @@ pub attributes-word : (b n : ℕ) (d ss : List ℕ) (w : ℕ) (s s' : List ℕ) 
 attributes-word b n d ss w s s' t r =
     let (ws, e, m, p) = row-put _ w s s' t r in
     let (vs, f, g) = attributes-from _ ws (t .pos) e in
-    omega (arith, m, ap length g, words-long vs, entries-long refusals.bounds 1 attributeAt ss b n d vs (t .pos) f)
+    omega (arith, m, ap length g, attributes-words vs, entries-long refusals.bounds 1 attributeAt ss b n d vs (t .pos) f)
 
 -- The section's answer: a refusal ..
 module _ (at : Filled) (g : Got DebugTables) (s s' : List ℕ) where
@@ -657,17 +628,11 @@ module _ (l os ss ids : List ℕ) (b : ℕ) where
           (rw (g, y) (omega (arith, j, i, length-append ws us))) (rw (g, y) z)
 
 -- All arrays come first.
-starts-then : {A B C : Type 0} (g : Got A) (f : A → ℕ → Got B) (h : B → ℕ → Got C) →
-    follow g (λ v j. follow (f v j) h) ≡ follow (follow g f) h
-unfolding follow
-starts-then (got v j) f h = refl
-starts-then (stop c k) f h = refl
-
 attributes-then : (l : List ℕ) (g : Got ℕ) →
     follow g (λ n j. entries shape 4 4 0 1 attributeAt n l j) ≡
     follow (follow g (λ n j. bind (paddingAt 4) (λ u. times n (fixed 4)) l j)) (λ os k. rows 0 refusals.bounds 1 attributeAt os l k)
 unfolding follow entries bind paddingAt
-attributes-then l (got n j) = starts-then (pad refusals.unpadded P 4 l j) _ _
+attributes-then l (got n j) = sym (follow-follow (pad refusals.unpadded P 4 l j) _ _)
 attributes-then l (stop c k) = refl
 
 attributes-behind : (l : List ℕ) (i : ℕ) → attributesAt l i ≡ follow (paddedAt 4 4 l i) (λ os k. rows 0 refusals.bounds 1 attributeAt os l k)

@@ -12,12 +12,13 @@ use Rattle.exact.specs.Entries.{raised}
 use Rattle.exact.proofs.LawsExact.{stop-not-got, got-value}
 use Rattle.enums.specs.Refusals as refusals
 use Rattle.format.specs.Debug.{DebugTables, noDebug}
-use Rattle.format.specs.Read.{accepted, refused, atStage}
+use Rattle.format.specs.Read.{refused, atStage}
 use Rattle.format.specs.Decode.{mostBytes}
 use Rattle.format.specs.DecodeDebug.{debugAt}
 use Rattle.format.specs.Sound.{All, Fits}
 use Rattle.container.specs.declared.sections.SectionPlace.{SectionPlace}
 use Rattle.reading.specs.declared.Refused.{Refused}
+use Rattle.format.proofs.LawsSoundWords.{attributes-words}
 use Rattle.sheet.specs.Store.{putWords, putRuns}
 use Rattle.sheet.proofs.LawsStore.{putWords-append, putWords-swap}
 use Rattle.payloads.specs.Fill.{Rows}
@@ -31,9 +32,6 @@ use Rattle.payloads.specs.Pass.{
   allWords,
   allRuns,
   filledSheet,
-  Begun,
-  passOf,
-  Small,
   Goes,
   attributeTable,
   listTable,
@@ -42,8 +40,8 @@ use Rattle.payloads.specs.Pass.{
 use Rattle.payloads.specs.declared.pass.Pass.{Pass}
 use Rattle.payloads.specs.declared.pass.Pass.the-variants as pass
 use Rattle.payloads.proofs.LawsFilled.{words-more, runs-more, filled-more}
-use Rattle.payloads.proofs.LawsSizes.{attributes-words, in-place-debug-small}
-use Rattle.payloads.proofs.LawsPass.{filledAt, in-absent, in-present, Steps, goes-refused, goes-on}
+use Rattle.payloads.proofs.LawsSizes.{in-place-debug-small}
+use Rattle.payloads.proofs.LawsPass.{filledAt, in-absent, in-present, goes-refused, goes-on}
 
 module _ (at : Filled) {s s' : List ℕ} where
   -- What the answer says of the model: a refusal ..

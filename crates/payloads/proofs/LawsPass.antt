@@ -1,13 +1,12 @@
 -- How the steps of a pass follow the model. Assumes nothing.
 use mathlib.Core.Path.{_≡_, refl, sym, ap, ap₂, _∙_, subst}
-use Prim.Native.Nat.{ℕ, suc, _+_, _-_, _*_, _^_, _≤_, _<_}
+use Prim.Native.Nat.{ℕ, _+_, _-_, _*_, _^_, _≤_}
 use native.Mathlib.Nat.{add-zero}
 use native.Mathlib.Omega.{arith}
-use mathlib.Core.Bool.{Bool, true, false, Bool-discrete, true≢false}
+use mathlib.Core.Bool.{true, false, Bool-discrete, true≢false}
 use mathlib.Core.List.{List, [], _∷_, _++_}
-use lib.ListN.{length, take, drop, getD, length-append}
+use lib.ListN.{length, take, drop, length-append}
 use Rattle.exact.specs.Got.{Got, got, stop, follow}
-use Rattle.exact.specs.Choice.{choose}
 use Rattle.exact.specs.Tiling.{join}
 use Rattle.exact.specs.Entries.{raised}
 use Rattle.exact.proofs.LawsExact.{stop-not-got, got-value}
@@ -265,11 +264,6 @@ table-goes num stage g from at val {s} {s₁} {s'} {p} {p'} r rows next room e t
           f .runs v j got-g ∙ ap₂ (λ z w. putRuns z w (v .runs)) h (let z : at .bytes ≡ 0 + length (join (allRuns ts)) = omega arith in z) ∙ sym (putRuns-append (allRuns ts) (v .runs) p₀ 0) ∙
           ap (λ z. putRuns p₀ 0 z) (sym (runs-more ts v));
     })
-
--- What the type says of a slice's elements.
-pub known-bytes : (l : List ℕ) → ((i : ℕ) → getD l i 0 < 256) → All (Fits 8) l
-known-bytes [] h = tt
-known-bytes (x ∷ l) h = (h 0, known-bytes l (λ i. h (suc i)))
 
 -- There is room for the payload at a place.
 pub roomy-fits : (file : List ℕ) (from : Pass) (at : Filled) {v : ℕ} → from ≡ pass.Got at v → (p : SectionPlace) → Roomy file from →

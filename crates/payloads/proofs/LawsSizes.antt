@@ -1,11 +1,11 @@
 -- What is read of a payload has at most eight words and one byte of pool for each of its bytes, and a refusal names a
 -- place of the payload or its end; so it is at a section's place in the file. Assumes nothing.
 use mathlib.Core.Path.{_≡_, refl, sym, ap, subst}
-use Prim.Native.Nat.{ℕ, suc, _+_, _*_, _≤_}
+use Prim.Native.Nat.{ℕ, _+_, _*_, _≤_}
 use native.Mathlib.Omega.{arith}
 use native.Mathlib.Decide.{decLe}
 use mathlib.Core.Bool.{true, Bool-discrete}
-use mathlib.Core.List.{List, [], _∷_, map, map-map}
+use mathlib.Core.List.{List, map, map-map}
 use lib.ListN.{length, take, drop, length-append, length-drop, length-map, take-append-drop}
 use lib.Seq.{length-take-le}
 use Rattle.exact.specs.Got.{Got, got, stop, follow}
@@ -15,14 +15,13 @@ use Rattle.exact.specs.Repeat.{Many, nil, cons, counted-of}
 use Rattle.exact.specs.Tiling.{join}
 use Rattle.exact.specs.Upto.{upto-of}
 use Rattle.exact.specs.Entries as table
-use Rattle.exact.proofs.LawsExact.{stop-not-got, got-value}
+use Rattle.exact.proofs.LawsExact.{stop-not-got, got-value, stop-place}
 use Rattle.exact.proofs.LawsSequence.{follow-inv}
 use Rattle.exact.proofs.LawsEntries.{raised-inv}
 use Rattle.enums.specs.declared.VersionClass.{VersionClass}
-use Rattle.format.specs.Tables.{Function, Attribute}
+use Rattle.format.specs.Tables.{Function}
 use Rattle.format.specs.Functions.{Located, apart, FunctionRow, function, Functions}
 use Rattle.format.specs.Debug.{DebugTables, noDebug}
-use Rattle.format.specs.Sheet.{lengthWords, attributeFields, attributeWords}
 use Rattle.format.specs.Sound.{All, Fits}
 use Rattle.format.specs.DecodeTables.{stringsAt, constantsAt}
 use Rattle.format.specs.DecodeTypes.{typesAt}
@@ -34,6 +33,7 @@ use Rattle.format.proofs.LawsDebug.{debug-ends}
 use Rattle.format.proofs.LawsSoundItems.{bytes-front, bytes-back}
 use Rattle.format.proofs.LawsSoundTables.{Runs, runs-of-table, types-sized, globals-sized, functions-sized, debug-sized}
 use Rattle.format.proofs.LawsBelow.{strings-below, constants-below, types-below, globals-below, functions-below}
+use Rattle.format.proofs.LawsSoundWords.{ones-length}
 use Rattle.container.specs.declared.sections.SectionPlace.{SectionPlace}
 use Rattle.payloads.specs.Fill.{Rows}
 use Rattle.payloads.specs.Tables.{runRows, filling}
@@ -43,9 +43,6 @@ use Rattle.payloads.specs.DebugRows.{debugWords}
 use Rattle.payloads.specs.declared.pass.Table.{Table}
 use Rattle.payloads.specs.declared.pass.Table.the-variants.{Strings, Types, Constants, Globals, Functions as Funcs}
 use Rattle.payloads.specs.Pass.{noRows, tableIn, payloadIn, inPlace, attributeTable, listTable}
-
-stop-place : {A : Type 0} {c d k m : ℕ} → _≡_ {A = Got A} (stop c k) (stop d m) → k ≡ m
-stop-place e = cc
 
 -- Rows made of what was read are refused where that is.
 rows-below : {A : Type 0} (f : A → Rows) (n : ℕ) (g : Got A) → ((c k : ℕ) → g ≡ stop c k → k ≤ n) → (c k : ℕ) →
@@ -73,13 +70,8 @@ rows-small : {A : Type 0} (f : A → Rows) (n : ℕ) (g : Got A) → ((w : A) (i
 rows-small f n g h v j e =
     let (w, i, a, b) = follow-inv g (λ v j. got (f v) j) v j e in subst (SmallRows n) (got-value b) (h w i a)
 
--- A length has one word.
-lengths-words : (ns : List ℕ) → length (join (map lengthWords ns)) ≡ length ns
-lengths-words [] = refl
-lengths-words (n ∷ ns) = ap suc (lengths-words ns)
-
 runs-small : (n : ℕ) (vs : List (List ℕ)) → Runs n vs → SmallRows n (runRows vs)
-runs-small n vs r = (omega (arith, r .count, lengths-words (map length vs), length-map vs length), r .size)
+runs-small n vs r = (omega (arith, r .count, ones-length (map length vs), length-map vs length), r .size)
 
 -- A body is a part of its function's bytes, ..
 body-within : (o i : ℕ) (bs : List ℕ) (x : Located Function) → FunctionRow o i bs x → length (x .value .body) ≤ length bs
@@ -121,12 +113,6 @@ table-small Funcs c l v j e b =
     let r : Functions 0 0 l w = functions-ends 0 .sound l 0 w i g .0 in
     let s = functions-sized 0 (length l) l w r b (omega arith) .0 .size in
     (rw map-map s, functions-within 0 0 l w r)) v j e
-
--- An attribute has seven words.
-pub attributes-words : (vs : List Attribute) → length (join (map attributeWords vs)) ≡ 7 * length vs
-unfolding attributeWords attributeFields
-attributes-words [] = refl
-attributes-words (v ∷ vs) = omega (arith, attributes-words vs)
 
 -- What is read of Debug's payload: both its tables are small, ..
 pub debug-small : (l : List ℕ) (t : DebugTables) (j : ℕ) → debugAt l 0 ≡ got t j → All (Fits 8) l →

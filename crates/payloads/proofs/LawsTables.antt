@@ -24,15 +24,15 @@ use Rattle.exact.specs.Entries.{Rows, raised, cutLeast, entry, entriesOf, from,
 use Rattle.exact.specs.Joined.{joined}
 use Rattle.exact.proofs.LawsExact.{stop-not-got, got-value}
 use Rattle.exact.proofs.LawsChoice.{choose-yes, choose-no}
-use Rattle.exact.proofs.LawsSequence.{follow-inv, bind-got, bind-stop}
+use Rattle.exact.proofs.LawsSequence.{follow-inv, bind-got, bind-stop, follow-follow}
 use Rattle.exact.proofs.LawsSteps.{fixed-at, nums-at, times-at, times-end}
 use Rattle.exact.proofs.LawsTiling.{Cut, cut-is}
 use Rattle.exact.proofs.LawsJoined.{joined-none, joined-end, joined-more, joined-stop}
+use Rattle.exact.proofs.LawsFixed.{length-nums}
 use Rattle.encoding.specs.Out.{put}
 use Rattle.enums.specs.Container.{P}
 use Rattle.enums.specs.Refusals as refusals
 use Rattle.reading.specs.Numbers.{varintAt, paddingAt}
-use Rattle.reading.proofs.LawsPlaced.{length-nums}
 use Rattle.format.specs.Strings.{noRows}
 use Rattle.format.specs.DecodeTables.{shape, offsetTableAt}
 use Rattle.format.specs.Sheet.{lengthWords}
@@ -54,13 +54,6 @@ width-least w (inr e) = omega arith
 pub width-four : {w : ℕ} → Width w → ¬ (w ≡ 8) → w ≡ 4
 width-four (inl e) h = e
 width-four (inr e) h = absurd (h e)
-
--- What follows what was followed.
-follow-follow : {A B C : Type 0} (g : Got A) (f : A → ℕ → Got B) (h : B → ℕ → Got C) →
-    follow (follow g f) h ≡ follow g (λ v j. follow (f v j) h)
-unfolding follow
-follow-follow (got v j) f h = refl
-follow-follow (stop c k) f h = refl
 
 -- An answer that says where the starts stand ..
 pub starting-got : {l : List ℕ} {g : Got (List ℕ)} (s : Starts) → got (startsIn l s) (s .data) ≡ g → Lies l s →

@@ -1,18 +1,17 @@
 -- Rows of type entries: the presence below 13.3, the choice by tag, and the count before a row. Assumes nothing.
 use mathlib.Core.Path.{_≡_, refl, sym, ap, _∙_, subst}
-use Prim.Native.Nat.{ℕ, zero, suc, _+_, _-_, _*_, _^_, _≤_, _<_}
-use native.Mathlib.Nat.{add-zero, not-suc-le-zero}
+use Prim.Native.Nat.{ℕ, _+_, _-_, _*_, _^_, _≤_, _<_}
+use native.Mathlib.Nat.{add-zero}
 use borrow.Author.Tests.{ne-eqb}
 use native.Mathlib.Decide.{ℕ-discrete}
 use native.Mathlib.Omega.{arith}
-use mathlib.Core.Bool.{Bool, true, false, cond, _||_, Bool-discrete}
+use mathlib.Core.Bool.{Bool, true, false, Bool-discrete, false≢true}
 use mathlib.Core.List.{List, [], _∷_, _++_}
 use lib.ListN.{length, length-append}
 use Rattle.exact.specs.Got.{Got, got, stop, follow}
 use Rattle.exact.specs.Exact.{Parser}
 use Rattle.exact.specs.Basic.{byte, pure}
 use Rattle.exact.specs.Sequence.{bind, map}
-use Rattle.exact.specs.Choice.{choose}
 use Rattle.exact.specs.Padding.{here}
 use Rattle.exact.specs.Refuse.{pickAt, refuse}
 use Rattle.exact.specs.Upto.{upto}
@@ -23,7 +22,7 @@ use Rattle.exact.specs.Kinds.{Case}
 use Rattle.enums.specs.Refusals as refusals
 use Rattle.enums.specs.Types as tags
 use Rattle.enums.specs.declared.VersionClass.{VersionClass}
-use Rattle.enums.specs.declared.VersionClass.the-variants.{Below13_3, From13_3, From13_4}
+use Rattle.enums.specs.Version.{since13·3}
 use Rattle.reading.specs.Numbers.{varintAt}
 use Rattle.reading.specs.declared.Refused.{Refused}
 use Rattle.format.specs.Tables.{TypeRow, plain}
@@ -55,15 +54,6 @@ use Rattle.payloads.specs.TypeRows.{partitionAt, placeOf, Row, Spare, Sh
 use Rattle.payloads.proofs.LawsWords.{word-before}
 use Rattle.payloads.proofs.LawsFields.{number-in}
 use Rattle.payloads.proofs.LawsTypes.{Via, oldEnd, oldSteps, old-says}
-
--- The presence byte: nonzero means 1.
-pub truth-zero : (b : ℕ) → b ≡ 0 → 0 ≡ truth b
-unfolding truth
-truth-zero b h = sym (choose-yes (ℕ-discrete b 0) 0 1 h)
-
-pub truth-one : (b : ℕ) → ¬ (b ≡ 0) → 1 ≡ truth b
-unfolding truth
-truth-one b h = sym (choose-no (ℕ-discrete b 0) 0 1 h)
 
 module _ (l : List ℕ) {from : SpotRead} (at : Spot) (e : from ≡ spot.Got at) where
   pub presence-got : (b j v : ℕ) → byte l (at .pos) ≡ got b j → v ≡ truth b → (s : List ℕ) →
@@ -166,17 +156,11 @@ pub row-as : (P Q : Parser TypeRow) (l : List ℕ) (i w : ℕ) (s s' : List ℕ)
 row-as P Q l i w s s' r e x = subst (λ P. Row (map fieldWords P l i) w s s' r) e x
 
 -- Partition views by class.
-pub below : {c : VersionClass} → c ≡ Below13_3 → oldPartitionViewAt ≡ partitionAt c
-unfolding choose
-below e = rw e
+pub partition-since : (c : VersionClass) {b : Bool} → b ≡ since13·3 c → b ≡ true → partitionViewAt ≡ partitionAt c
+partition-since c e h = sym (choose-yes (Bool-discrete (since13·3 c) true) _ _ (sym e ∙ h))
 
-pub since-3 : {c : VersionClass} → c ≡ From13_3 → partitionViewAt ≡ partitionAt c
-unfolding choose
-since-3 e = rw e
-
-pub since-4 : {c : VersionClass} → c ≡ From13_4 → partitionViewAt ≡ partitionAt c
-unfolding choose
-since-4 e = rw e
+pub partition-below : (c : VersionClass) {b : Bool} → b ≡ since13·3 c → b ≡ false → oldPartitionViewAt ≡ partitionAt c
+partition-below c e h = sym (choose-no (Bool-discrete (since13·3 c) true) _ _ (λ k. false≢true (sym h ∙ e ∙ k)))
 
 -- Behind the first two.
 abbrev tail2 : {A : Type 1} → List A → List A
@@ -311,33 +295,6 @@ unknown-plain t h n =
         ),
       ),
     )
-
--- Every tag below n passes the test.
-abbrev upTo : ℕ → (ℕ → Bool) → Bool
-upTo zero f = true
-upTo (suc n) f = cond (f n) (upTo n f) false
-
-up-to : (n : ℕ) (f : ℕ → Bool) → upTo n f ≡ true → (t : ℕ) → t < n → f t ≡ true
-up-to zero f e t h = absurd (not-suc-le-zero h)
-up-to (suc n) f e t h = elim (ℕ-discrete t n) [ yes q ↦ rw q (first (f n) (upTo n f) e) | no q ↦ up-to n f (second (f n) (upTo n f) e) t (omega arith) ]
-  where
-    first : (a b : Bool) → cond a b false ≡ true → a ≡ true
-    first true b e = refl
-    first false b e = e
-
-    second : (a b : Bool) → cond a b false ≡ true → b ≡ true
-    second true b e = e
-    second false b e = absurd (false-true e)
-
-either : (a b : Bool) → a || b ≡ true → a ≡ false → b ≡ true
-either true b e h = absurd (false-true (sym h))
-either false b e h = e
-
-pub plain-low : (t : ℕ) → t < 20 → ¬ (t ≡ 12) → ¬ (t ≡ 13) → ¬ (t ≡ 14) → ¬ (t ≡ 15) → ¬ (t ≡ 16) → among t plainTags ≡ true
-plain-low t h a b c d e =
-    either (among t (12 ∷ 13 ∷ 14 ∷ 15 ∷ 16 ∷ [])) (among t plainTags)
-    (up-to 20 (λ t. among t (12 ∷ 13 ∷ 14 ∷ 15 ∷ 16 ∷ []) || among t plainTags) refl t h)
-    (among-none t (12 ∷ 13 ∷ 14 ∷ 15 ∷ 16 ∷ []) (a, (b, (c, (d, (e, tt))))))
 
 module _ (c : VersionClass) (t : ℕ) (l s s' : List ℕ) (at : Spot) where
   -- A tag without fields is a row of itself ..

@@ -9,7 +9,7 @@ use native.Mathlib.Omega.{arith}
 use mathlib.Core.Option.{none, some}
 use mathlib.Core.List.{List, [], _∷_, _++_, map}
 use lib.ListN.{length, take, drop, getD, length-drop, length-append, drop-of-length-le}
-use lib.Seq.{drop-drop, drop-cons, length-take-le}
+use lib.Seq.{drop-drop, drop-cons, length-take-le, take-nil}
 use Rattle.exact.specs.Got.{Got, got, stop, follow}
 use Rattle.exact.specs.Basic.{pure}
 use Rattle.exact.specs.Sequence.{bind}
@@ -20,6 +20,7 @@ use Rattle.exact.specs.Entries.{raised, cutLeast, entry, entriesOf}
 use Rattle.exact.proofs.LawsExact.{stop-not-got, got-value}
 use Rattle.exact.proofs.LawsChoice.{choose-yes, choose-no}
 use Rattle.exact.proofs.LawsSteps.{fixed-at, nums-at}
+use Rattle.exact.proofs.LawsFixed.{length-nums}
 use Rattle.enums.specs.Refusals as refusals
 use Rattle.enums.specs.declared.VersionClass.{VersionClass}
 use Rattle.reading.specs.declared.Refused.{Refused}
@@ -34,10 +35,6 @@ use Rattle.payloads.specs.declared.fields.SpotRead.the-variants as spot
 use Rattle.payloads.specs.TypeRows.{placeOf, Row, Short, rowWords, rowsWords, entryIn, startOf, entriesFrom, Inside}
 
 -- What a part of a list has from s up to e.
-take-nil : (n : ℕ) → take {A = ℕ} n [] ≡ []
-take-nil zero = refl
-take-nil (suc n) = refl
-
 drop-take : (s e : ℕ) (l : List ℕ) → drop s (take e l) ≡ take (e - s) (drop s l)
 drop-take zero e l = let n : e ≡ e - 0 = omega arith in ap (λ n. take n l) n
 drop-take (suc s) zero l = let n : 0 - suc s ≡ 0 = omega arith in rw n refl
@@ -133,11 +130,6 @@ unfolding Inside
 inside-at start end w n t h = h
 
 -- Starts.
-pub length-nums : (n w : ℕ) (s : List ℕ) → length (nums n w s) ≡ n
-unfolding nums
-length-nums zero w s = refl
-length-nums (suc n) w s = ap suc (length-nums n w (drop w s))
-
 module _ (starts count i : ℕ) (l : List ℕ) where
   abbrev all : List ℕ
   all = nums count 4 (drop starts l)

@@ -1,6 +1,6 @@
 -- The Type section as a table of rows. Assumes nothing.
 use mathlib.Core.Path.{_≡_, refl, sym, ap, _∙_, subst}
-use Prim.Native.Nat.{ℕ, zero, suc, _+_, _-_, _*_, _/_, _^_, _≤_, _<_}
+use Prim.Native.Nat.{ℕ, suc, _+_, _-_, _*_, _/_, _≤_, _<_}
 use native.Mathlib.Nat.{add-zero, div-mul-le-self, lt-div-mul-add, mul-le-mul-right}
 use native.Mathlib.Decide.{ℕ-discrete}
 use native.Mathlib.Omega.{arith}
@@ -12,7 +12,7 @@ use Rattle.exact.specs.Basic.{pure}
 use Rattle.exact.specs.Sequence.{bind}
 use Rattle.exact.specs.Sequence as sequence
 use Rattle.exact.specs.Repeat.{times}
-use Rattle.exact.specs.Fixed.{fixed, nums}
+use Rattle.exact.specs.Fixed.{fixed}
 use Rattle.exact.specs.Tiling.{join, endOf}
 use Rattle.exact.specs.Upto.{upto}
 use Rattle.exact.specs.Entries.{entriesOf, entries, rows, cutLeast, entry}
@@ -20,6 +20,7 @@ use Rattle.exact.proofs.LawsExact.{stop-not-got, got-value}
 use Rattle.exact.proofs.LawsSequence.{follow-inv}
 use Rattle.exact.proofs.LawsChoice.{choose-yes, choose-no}
 use Rattle.exact.proofs.LawsSteps.{times-at, times-end}
+use Rattle.exact.proofs.LawsFixed.{length-nums}
 use Rattle.enums.specs.Refusals as refusals
 use Rattle.enums.specs.declared.VersionClass.{VersionClass}
 use Rattle.reading.specs.Numbers.{varintAt, paddingAt}
@@ -37,7 +38,6 @@ use Rattle.payloads.specs.declared.fields.Spot.{Spot}
 use Rattle.payloads.specs.declared.fields.SpotRead.the-variants as spot
 use Rattle.payloads.specs.Fill.{Fills}
 use Rattle.payloads.specs.TypeRows.{placeOf, Row, rowsWords, entriesFrom, typeRows, startsAndEntries}
-use Rattle.payloads.proofs.LawsTypeSection.{length-nums}
 
 -- As many rows as starts.
 entries-length : (c m : ℕ) (p : Parser TypeRow) (ss : List ℕ) (b n : ℕ) (d : List ℕ) (vs : List TypeRow) (k : ℕ) →

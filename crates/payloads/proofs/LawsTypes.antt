@@ -15,7 +15,7 @@ use Rattle.exact.specs.Sequence.{bind, map}
 use Rattle.exact.specs.Repeat.{counted}
 use Rattle.enums.specs.declared.VersionClass.{VersionClass}
 use Rattle.reading.specs.Numbers.{varintAt, countedAt}
-use Rattle.format.specs.Items.{truth, since13·4}
+use Rattle.format.specs.Items.{truth}
 use Rattle.format.specs.Tables.{TypeRow, partitionView}
 use Rattle.format.specs.Sheet.{fieldWords}
 use Rattle.exact.proofs.LawsChoice.{choose-yes, choose-no}
@@ -33,6 +33,7 @@ use Rattle.format.specs.DecodeTypes.{
   functionTypeAt,
 }
 use Rattle.enums.specs.Types as tags
+use Rattle.enums.specs.Version.{since13·4}
 use Rattle.sheet.specs.Store.{putWord, putWords}
 use Rattle.payloads.specs.declared.fields.Number.{Number}
 use Rattle.payloads.specs.declared.fields.Number.the-variants.{Varint, I32, I64}

@@ -14,8 +14,8 @@ use Rattle.exact.specs.Tiling.{join, endOf}
 use Rattle.exact.specs.Entries.{cutLeast, entry, entriesOf}
 use Rattle.enums.specs.Refusals as refusals
 use Rattle.enums.specs.declared.VersionClass.{VersionClass}
+use Rattle.enums.specs.Version.{since13·3}
 use Rattle.format.specs.Tables.{TypeRow}
-use Rattle.format.specs.Items.{since13·3}
 use Rattle.format.specs.Sheet.{typeWords}
 use Rattle.format.specs.DecodeTypes.{partitionViewAt, oldPartitionViewAt, typeEntryAt}
 use Rattle.sheet.specs.Store.{putWords}

@@ -2,12 +2,11 @@
 // one by one, and then the lists.
 ghost use mathlib.Core.Path.{_≡_};
 ghost use Prim.Native.Nat.{_+_, _-_, _*_, _^_, _≤_, _<_};
-ghost use lib.ListN.{length, getD, take, drop, replicate};
+ghost use lib.ListN.{length, take, drop, replicate};
 ghost use Rattle.exact.specs.Sequence.{bind, map};
 ghost use Rattle.exact.specs.Tiling.{endOf, cuts};
 ghost use Rattle.exact.specs.Entries.{rows, entriesOf};
 ghost use Rattle.enums.specs.Refusals as refusals;
-ghost use Rattle.format.specs.Debug.{fieldCounts};
 ghost use Rattle.format.specs.Sheet.{attributeWords};
 ghost use Rattle.format.specs.DecodeTables.{paddedAt};
 ghost use Rattle.format.specs.DecodeDebug.{attributeAt, listsAt, debugAt};
@@ -27,6 +26,7 @@ use crate::tables::StartsRead;
 use crate::tables::place_starts;
 use crate::tables::start_at;
 use enums::BytePosition;
+use enums::DebugTag;
 use enums::IdPosition;
 use enums::Refusal;
 use reading::ByteRead;
@@ -39,16 +39,6 @@ use reading::Refused;
 pub enum DebugRead {
     Got(usize, usize, Filled),
     Stop(Refused),
-}
-
-// The number of varints behind each tag; the other fields of the sheet's six are 0.
-const FIELD_COUNTS: [u64; 7] = [0, 1, 2, 4, 4, 6, 2];
-
-fn field_count(tag: u8) -> u64
-    requires { ⌜ tag < 7 ⌝ }
-    ensures { λ r. ⌜ r ≡ getD fieldCounts tag 0 ⌝ }
-{
-    FIELD_COUNTS[tag as usize]
 }
 
 // A count, padding, and as many numbers of `width` bytes. Behind a count of 0 there is still padding.
@@ -104,7 +94,7 @@ fn parse_attribute(entry: &[u8], sheet: &mut [u8], word: usize) -> SpotRead
                     at: 0,
                 });
             }
-            let count = field_count(tag);
+            let count = DebugTag::field_count(tag as u64);
             let pos = next.pos;
             let first = put_value(
                 sheet,

@@ -5,7 +5,6 @@ ghost use Prim.Native.Nat.{_+_, _^_, _≤_, _<_};
 ghost use lib.ListN.{length};
 ghost use Rattle.reading.specs.Numbers.{varintAt};
 ghost use Rattle.reading.specs.Shown.{gotNum};
-ghost use Rattle.format.specs.Items.{since13·4};
 ghost use Rattle.format.specs.DecodeTypes.{flagsAt, byteIf};
 ghost use Rattle.sheet.specs.Store.{putWord};
 ghost use Rattle.payloads.specs.Fields.{numberAt, valueOf, Room, Within, Grows, Put, Copied, one, listed, numbers, fieldIf};
@@ -169,24 +168,13 @@ pub fn copy_number(entry: &[u8], sheet: &mut [u8], from: SpotRead) -> SpotRead
     copy_field(entry, true, Number::Varint, sheet, from)
 }
 
-// Whether a version class is from 13.4 on.
-pub fn from_13_4(class: VersionClass) -> bool
-    ensures { λ r. ⌜ r ≡ since13·4 «class» ⌝ }
-{
-    match class {
-        VersionClass::Below13_3 => false,
-        VersionClass::From13_3 => false,
-        VersionClass::From13_4 => true,
-    }
-}
-
 // Copies flags that are there from 13.4 on.
 pub fn copy_flags(entry: &[u8], class: VersionClass, sheet: &mut [u8], from: SpotRead) -> SpotRead
     requires { ⌜ Room (now «entry») from ⌝ }
     ensures { λ r. ⌜ Copied (one (flagsAt «class»)) (now («entry» .entry)) from (now (sheet .entry)) (now (sheet .exit)) r ⌝ }
     ensures { λ r. ⌜ Grows (now («entry» .entry)) from r ⌝ }
 {
-    copy_field(entry, from_13_4(class), Number::Varint, sheet, from)
+    copy_field(entry, class.from_13_4(), Number::Varint, sheet, from)
 }
 
 // Copies a byte that is there if bit 0 of the flags is set.

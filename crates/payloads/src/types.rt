@@ -166,11 +166,10 @@ fn any_partition_view(entry: &[u8], class: VersionClass, sheet: &mut [u8], at: S
     ensures { λ r. ⌜ Row (map fieldWords (partitionAt «class») (now («entry» .entry)) (at .pos)) (at .word) (now (sheet .entry)) (now (sheet .exit)) r ⌝ }
     ensures { λ r. ⌜ Within (now («entry» .entry)) (at .pos) (at .word) 7 r ⌝ }
 {
-    match class {
-        VersionClass::Below13_3 => old_partition_view(entry, sheet, at),
-        VersionClass::From13_3 => partition_view(entry, sheet, at),
-        VersionClass::From13_4 => partition_view(entry, sheet, at),
+    if class.from_13_3() {
+        return partition_view(entry, sheet, at);
     }
+    old_partition_view(entry, sheet, at)
 }
 
 // The tag and what stands behind it, by kind; a tag that is not known is refused at the entry's first byte.

@@ -14,10 +14,10 @@ use Rattle.exact.specs.Exact.{Parser, Lang, Exact}
 use Rattle.exact.specs.Basic.{byte, one}
 use Rattle.exact.specs.Sequence.{Of, of}
 use Rattle.exact.specs.Repeat.{Many, nil, cons, counted-of}
-use Rattle.exact.specs.Fixed.{raw, raw-of, little, bytesOf, fixed, Fixed}
+use Rattle.exact.specs.Fixed.{raw, raw-of, bytesOf, fixed, Fixed}
 use Rattle.exact.specs.Padding.{gap, literal-of}
 use Rattle.exact.proofs.LawsBasic.{byte-exact}
-use Rattle.exact.proofs.LawsFixed.{raw-exact, fixed-exact, length-bytesOf, little-bytesOf}
+use Rattle.exact.proofs.LawsFixed.{raw-exact, fixed-exact, length-bytesOf, fixed-of}
 use Rattle.enums.specs.Container.{P}
 use Rattle.encoding.specs.Varint.{Spells, spelling}
 use Rattle.encoding.specs.Signed.{zigzag, unzigzag, pattern, signed}
@@ -60,18 +60,12 @@ signed-varint-back out at z f h =
     let r : Of unzigzag (λ i. Spells) at bs (unzigzag (zigzag z)) = of (spelling-spells (zigzag z) (zigzag-fits z .0 f)) in
     read-back signed-varint-exact out at bs z (subst (Of unzigzag (λ i. Spells) at bs) (unzigzag-zigzag z) r) h
 
--- The bytes of a number stand for it.
-spelt : (w i n : ℕ) → n < 256 ^ w → Fixed w i (bytesOf w n) n
-spelt w i n f =
-    let r : Fixed w i (bytesOf w n) (little (bytesOf w n)) = of (raw-of (length-bytesOf w n)) in
-    subst (Fixed w i (bytesOf w n)) (little-bytesOf w n f) r
-
 -- A number of w bytes.
 pub fixed-back : (w : ℕ) (out : List ℕ) (at n : ℕ) → n < 256 ^ w → at + w ≤ length out →
     fixed w (put out at (bytesOf w n)) at ≡ got n (at + w)
 fixed-back w out at n f h =
     let e : length (bytesOf w n) ≡ w = length-bytesOf w n in
-    read-back (fixed-exact w) out at (bytesOf w n) n (spelt w at n f) (omega arith) ∙ ap (λ k. got n (at + k)) e
+    read-back (fixed-exact w) out at (bytesOf w n) n (fixed-of w at n f) (omega arith) ∙ ap (λ k. got n (at + k)) e
 
 bits-bytes : (w : ℕ) → 2 ^ (8 * w) ≡ 256 ^ w
 bits-bytes zero = refl
@@ -87,7 +81,7 @@ signed-back w out at z p f h =
     let n : ℕ = pattern (8 * w) z in
     let l : n < 256 ^ w = omega (arith, pattern-fits (8 * w) (omega arith) z f, bits-bytes w) in
     let e : length (bytesOf w n) ≡ w = length-bytesOf w n in
-    let r : Of (signed (8 * w)) (Fixed w) at (bytesOf w n) (signed (8 * w) n) = of (spelt w at n l) in
+    let r : Of (signed (8 * w)) (Fixed w) at (bytesOf w n) (signed (8 * w) n) = of (fixed-of w at n l) in
     read-back (signed-exact w) out at (bytesOf w n) z
     (subst (Of (signed (8 * w)) (Fixed w) at (bytesOf w n)) (signed-pattern (8 * w) (omega arith) z f) r) (omega arith) ∙
     ap (λ k. got z (at + k)) e
@@ -106,7 +100,7 @@ AllFit w (v ∷ vs) = (v < 256 ^ w) × AllFit w vs
 
 many-spelt : (w i : ℕ) (vs : List ℕ) → AllFit w vs → Many (Fixed w) (length vs) i (flat w vs) vs
 many-spelt w i [] f = nil
-many-spelt w i (v ∷ vs) f = cons (spelt w i v (f .0)) (many-spelt w (i + length (bytesOf w v)) vs (f .1))
+many-spelt w i (v ∷ vs) f = cons (fixed-of w i v (f .0)) (many-spelt w (i + length (bytesOf w v)) vs (f .1))
 
 -- A counted array.
 pub counted-back : (w : ℕ) (out : List ℕ) (at : ℕ) (vs : List ℕ) → length vs < 2 ^ 64 → AllFit w vs → Room out at (countedBytes w vs) →

@@ -13,7 +13,7 @@ use Rattle.exact.specs.Sequence.{bind, map}
 use Rattle.exact.specs.Repeat.{times, counted}
 use Rattle.exact.specs.Fixed.{raw, little, fixed}
 use Rattle.exact.specs.Padding.{literal, broke, blamed, here, gap, pad}
-use Rattle.exact.proofs.LawsExact.{stop-not-got, got-next}
+use Rattle.exact.proofs.LawsExact.{stop-not-got, got-next, stop-place}
 use Rattle.exact.proofs.LawsFixed.{raw-exact, fixed-exact}
 use Rattle.exact.proofs.LawsRepeat.{times-exact}
 use Rattle.exact.proofs.LawsSteps.{byte-at, byte-end, raw-at, raw-end, fixed-at, fixed-end}
@@ -54,9 +54,6 @@ fixed-in w l i v j p e =
 abbrev pub Ahead : {A : Type 0} → Parser A → Type 0
 Ahead p = (l : List ℕ) (i c k : ℕ) → p l i ≡ stop c k → i ≤ k
 
-stop-place : {A : Type 0} {c d k m : ℕ} → _≡_ {A = Got A} (stop c k) (stop d m) → k ≡ m
-stop-place e = cc
-
 pub byte-ahead : Ahead byte
 byte-ahead l i c k e =
     elim (decLt i (length l)) [
@@ -71,14 +68,15 @@ raw-ahead n l i c k e =
       | no h ↦ absurd (stop-not-got (sym e ∙ raw-at n l i (omega arith)))
     ]
 
-broke-ahead : {A : Type 0} (g : Got A) (i c k : ℕ) → broke g i ≡ stop c k → i ≤ k
+-- What is refused as a whole is refused where it began.
+broke-place : {A : Type 0} (g : Got A) (i c k : ℕ) → broke g i ≡ stop c k → k ≡ i
 unfolding broke
-broke-ahead (got v j) i c k e = absurd (stop-not-got (sym e))
-broke-ahead (stop d m) i c k e = omega (arith, stop-place e)
+broke-place (got v j) i c k e = absurd (stop-not-got (sym e))
+broke-place (stop d m) i c k e = sym (stop-place e)
 
 pub blamed-ahead : {A : Type 0} (p : Parser A) → Ahead (blamed p)
 unfolding blamed
-blamed-ahead p l i c k e = broke-ahead (p l i) i c k e
+blamed-ahead p l i c k e = omega (arith, broke-place (p l i) i c k e)
 
 pure-ahead : {A : Type 0} (w : A) → Ahead (pure w)
 unfolding pure
@@ -120,6 +118,10 @@ unfolding signedAt
 signed-ahead w = map-ahead (fixed-exact w) (fixed-ahead w) (signed (8 * w))
 
 -- Varints.
+pub varint-place : (l : List ℕ) (i c k : ℕ) → varintAt l i ≡ stop c k → k ≡ i
+unfolding varintAt blamed
+varint-place l i c k e = broke-place (digits 9 l i) i c k e
+
 pub varint-ahead : Ahead varintAt
 unfolding varintAt
 varint-ahead = blamed-ahead (digits 9)

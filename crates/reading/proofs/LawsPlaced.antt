@@ -17,6 +17,7 @@ use Rattle.exact.specs.Padding.{here}
 use Rattle.exact.proofs.LawsExact.{stop-not-got, got-value, got-next}
 use Rattle.exact.proofs.LawsSequence.{follow-inv, bind-got, bind-stop}
 use Rattle.exact.proofs.LawsSteps.{raw-at, raw-end, fixed-at, times-at, times-end}
+use Rattle.exact.proofs.LawsFixed.{length-nums}
 use Rattle.reading.specs.Numbers.{varintAt, placed, itemsAt, countedAt, Word}
 use Rattle.reading.proofs.LawsNumbers.{varint-in}
 
@@ -123,12 +124,6 @@ module _ (w : ℕ) (s : List ℕ) (i : ℕ) where
 pos-of : (n w : ℕ) → 0 < n * w → 0 < w
 pos-of n zero h = let z : n * 0 ≡ 0 = mul-zero n in omega arith
 pos-of n (suc w) h = omega arith
-
--- n numbers are n.
-pub length-nums : (n w : ℕ) (s : List ℕ) → length (nums n w s) ≡ n
-unfolding nums
-length-nums zero w s = refl
-length-nums (suc n) w s = ap suc (length-nums n w (drop w s))
 
 -- n numbers that were read are those at the place, and are all there.
 pub times-got : (n w : ℕ) (l : List ℕ) (i : ℕ) (vs : List ℕ) (j : ℕ) → times n (fixed w) l i ≡ got vs j →

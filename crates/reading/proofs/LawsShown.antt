@@ -6,7 +6,7 @@ use mathlib.Core.List.{List}
 use lib.IntN.{ℤ}
 use lib.ListN.{length, drop}
 use Rattle.exact.specs.Got.{Got, got, stop}
-use Rattle.reading.proofs.LawsPlaced.{length-nums}
+use Rattle.exact.proofs.LawsFixed.{length-nums}
 use Rattle.reading.specs.Shown.{gotByte, gotU16, gotU32, gotNum, gotI32, gotI64, gotBytes, gotPadding, gotItems}
 use Rattle.reading.specs.declared.ByteRead.{ByteRead}
 use Rattle.reading.specs.declared.ByteRead.the-variants as byte

@@ -1,35 +1,25 @@
 -- The words of a store: how many they are, where each stands, and that each is a u64. Assumes nothing.
-use mathlib.Core.Path.{_≡_, refl, sym, ap, _∙_}
+use mathlib.Core.Path.{_≡_, sym, ap, _∙_}
 use Prim.Native.Nat.{ℕ, zero, suc, _+_, _*_, _-_, _/_, _^_, _≤_, _<_}
-use native.Mathlib.Nat.{pow-suc, not-suc-le-zero}
+use native.Mathlib.Nat.{pow-suc}
 use native.Mathlib.Omega.{arith}
 use mathlib.Core.List.{List, [], _∷_}
-use lib.ListN.{length, take, drop, getD, length-drop}
+use lib.ListN.{length, take, drop, getD, length-drop, List·getD-eq-default}
 use lib.Seq.{length-take-le, getD-drop}
 use Rattle.exact.specs.Got.{got}
-use Rattle.exact.specs.Fixed.{little, fixed, nums}
+use Rattle.exact.specs.Fixed.{little, fixed}
 use Rattle.exact.proofs.LawsSteps.{fixed-at, nums-at}
+use Rattle.exact.proofs.LawsFixed.{length-nums}
 use Rattle.sheet.specs.Store.{wordsIn}
-
-length-nums : (n w : ℕ) (s : List ℕ) → length (nums n w s) ≡ n
-unfolding nums
-length-nums zero w s = refl
-length-nums (suc n) w s = ap suc (length-nums n w (drop w s))
 
 -- A store has a word for each eight of its bytes.
 pub length-wordsIn : (s : List ℕ) → length (wordsIn s) ≡ length s / 8
 unfolding wordsIn
 length-wordsIn s = length-nums (length s / 8) 8 s
 
--- Past the end of a list there is 0.
-pub getD-end : (l : List ℕ) (i : ℕ) → length l ≤ i → getD l i 0 ≡ 0
-getD-end [] i h = refl
-getD-end (x ∷ l) zero h = absurd (not-suc-le-zero h)
-getD-end (x ∷ l) (suc i) h = getD-end l i (omega arith)
-
--- So past the words of a store ..
+-- Past the words of a store there is 0 ..
 pub no-word : (s : List ℕ) (i : ℕ) → length s / 8 ≤ i → getD (wordsIn s) i 0 ≡ 0
-no-word s i h = getD-end (wordsIn s) i (rw length-wordsIn h)
+no-word s i h = List·getD-eq-default (wordsIn s) 0 (rw length-wordsIn h)
 
 -- .. and word i is the number of the eight bytes from 8 i on.
 pub word-read : (s : List ℕ) (i : ℕ) → i < length s / 8 → fixed 8 s (i * 8) ≡ got (getD (wordsIn s) i 0) (i * 8 + 8)

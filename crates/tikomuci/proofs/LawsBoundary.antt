@@ -9,6 +9,7 @@ use lib.ListN.{length, drop}
 use Rattle.exact.specs.Got.{stop}
 use Rattle.exact.specs.Exact.{Parser}
 use Rattle.exact.proofs.LawsChoice.{choose-yes, choose-no}
+use Rattle.exact.proofs.LawsFixed.{length-nums}
 use Rattle.enums.specs.Refusals as refusals
 use Rattle.encoding.specs.Out.{Wrote}
 use Rattle.encoding.specs.Shown as below
@@ -18,7 +19,6 @@ use Rattle.encoding.specs.declared.EncodingWriter.{EncodingWriter}
 use Rattle.encoding.specs.declared.FloatType.{FloatType}
 use Rattle.encoding.specs.declared.Written.{Written}
 use Rattle.reading.specs.Shown.{gotBytes, gotItems}
-use Rattle.reading.proofs.LawsPlaced.{length-nums}
 use Rattle.reading.specs.declared.BytesRead.{BytesRead}
 use Rattle.reading.specs.declared.BytesRead.the-variants as bytes
 use Rattle.reading.specs.declared.ItemsRead.{ItemsRead}

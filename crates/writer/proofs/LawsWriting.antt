@@ -1,13 +1,13 @@
 -- What is written of a handed sheet, by what the judge says of it; that `write` keeps its promise, and that this allows
 -- one result only. Assumes nothing.
 use mathlib.Core.Path.{_≡_, refl, sym, ap, _∙_, subst}
-use Prim.Native.Nat.{ℕ, suc, _+_, _/_, _%_, _^_, _≤_, _<_}
+use Prim.Native.Nat.{ℕ, _+_, _/_, _%_, _^_, _≤_, _<_}
 use native.Mathlib.Omega.{arith}
 use native.Mathlib.Decide.{ℕ-discrete, decLe}
 use mathlib.Core.Logic.{inr}
-use mathlib.Core.List.{List, [], _∷_}
-use mathlib.Core.Option.{Option, none, some}
-use lib.ListN.{length, getD, replicate, length-replicate}
+use mathlib.Core.List.{List, []}
+use mathlib.Core.Option.{Option, none, some, Option·none-ne-some}
+use lib.ListN.{length, replicate, length-replicate}
 use Rattle.exact.specs.Choice.{choose}
 use Rattle.exact.proofs.LawsChoice.{choose-yes, choose-no}
 use Rattle.encoding.specs.Out.{put}
@@ -21,10 +21,10 @@ use Rattle.format.specs.Judge.{judged, cutting, withPool, tablesOf}
 use Rattle.format.specs.Tests.{both?, all?, fits?}
 use Rattle.format.specs.Image.{image}
 use Rattle.format.specs.Write.{Writing, writes, refuses, mostWords, imaged, written, blank}
-use Rattle.format.proofs.LawsFrame.{none-not-some}
 use Rattle.format.proofs.Sheets.{sheet-judged, judged-pool}
 use Rattle.format.proofs.Images.{image-explained, image-one}
-use Rattle.format.proofs.Writes.{Wrote, written-sound, written-complete}
+use Rattle.format.proofs.Writes.{written-sound, written-complete, refuses-not-writes}
+use Rattle.format.proofs.LawsSoundItems.{zeros-fit}
 use Rattle.sheet.specs.Store.{wordsIn}
 use Rattle.sheet.proofs.LawsWords.{length-wordsIn}
 use Rattle.judge.specs.declared.Judged.{Judged}
@@ -32,17 +32,13 @@ use Rattle.judge.specs.declared.SheetJudged.{SheetJudged}
 use Rattle.judge.specs.declared.SheetJudged.the-variants as sheet
 use Rattle.judge.specs.Judge.{judgedBytes, summary}
 use Rattle.judge.proofs.LawsPlaced.{judged-holds, passed-of}
+use Rattle.judge.proofs.LawsJudge.{whole-words}
 use Rattle.images.specs.Sections.{Holds}
 use Rattle.writer.specs.Writes.{lengthOf, ImageTold, inRoom, withImage, JudgedWritten}
 use Rattle.writer.specs.Written.{writing, writingAlone, Kept, WritePost, ImagePost}
 use Rattle.writer.specs.declared.Imaged.{Imaged}
 use Rattle.writer.specs.declared.Imaged.the-variants as told
-use Rattle.images.proofs.LawsWritten.{holds-judged, zeros-fit}
-
--- What the type says of a slice's elements.
-pub known-bytes : (l : List ℕ) → ((i : ℕ) → getD l i 0 < 256) → All (Fits 8) l
-known-bytes [] h = tt
-known-bytes (x ∷ l) h = (h 0, known-bytes l (λ i. h (suc i)))
+use Rattle.images.proofs.LawsWritten.{holds-judged}
 
 -- A sheet that is judged is judged by its words.
 judged-words : (s : List ℕ) (r : Frame) → judgedBytes s ≡ some r → judged (wordsIn s) ≡ some r
@@ -51,11 +47,7 @@ judged-words s r = go (ℕ-discrete (length s % 8) 0)
   where
     go : (d : Dec (length s % 8 ≡ 0)) → choose d (judged (wordsIn s)) none ≡ some r → judged (wordsIn s) ≡ some r
     go (yes h) e = e
-    go (no h) e = absurd (none-not-some e)
-
-whole-judged : (s : List ℕ) → length s % 8 ≡ 0 → judgedBytes s ≡ judged (wordsIn s)
-unfolding judgedBytes
-whole-judged s h = choose-yes (ℕ-discrete (length s % 8) 0) (judged (wordsIn s)) none h
+    go (no h) e = absurd (Option·none-ne-some _ e)
 
 -- What is refused has no frame.
 stopped-none : (o : Option Frame) → sheet.Stop ≡ summary o → o ≡ none
@@ -121,9 +113,6 @@ module _ (s pool : List ℕ) where
             let w = judged-words s (p .frame) (p .judged) in
             let t = judged-pool (wordsIn s) pool (p .frame) w (sym q ∙ p .pool) b in
             (cutting (p .frame) pool, t, in-limits ∙ ap (λ o. imaged (withPool pool o)) (p .judged ∙ sym w) ∙ ap imaged t)
-
-refuses-not-writes : {c : ℕ} {bs : List ℕ} → refuses c ≡ writes bs → ⊥
-refuses-not-writes e = let z : _≡_ {A = ℕ} 0 1 = cc in omega arith
 
 -- What is written is written of the words.
 writing-written : (s pool bs : List ℕ) → writing s pool ≡ writes bs → written (wordsIn s) pool ≡ writes bs
@@ -192,7 +181,7 @@ module _ (s pool out out' : List ℕ) (r : Imaged) (a : r ≡ inRoom (length out
       ap
       (λ f. choose (decLe (length (wordsIn s)) mostWords)
       (choose (decLe (length pool) mostBytes) (imaged (withPool pool f)) (refuses refusals.limit)) (refuses refusals.limit))
-      (whole-judged s whole) in
+      (whole-words s whole) in
       same ∙ ap (λ w. written w pool) words ∙ ap (written (sheetOf t)) bytes ∙ written-complete t h m n k
 
   -- All of the promise.

@@ -1,7 +1,6 @@
 -- `write` refuses what is too large or not well-formed, and hands the rest on. Assumes nothing.
 use native.Mathlib.Omega.{arith}
 use Rattle.writer.proofs.LawsWriting.{
-  known-bytes,
   writing-words,
   writing-bytes,
   writing-unsound,
@@ -11,6 +10,7 @@ use Rattle.writer.proofs.LawsWriting.{
   write-judged,
 }
 use borrow.Author.Needs.{needs}
+use Rattle.format.proofs.LawsSoundItems.{known-bytes}
 use Rattle.writer.proofs.write.Statement.{statement}
 use Rattle.writer.proofs.write.Tie as tie
 

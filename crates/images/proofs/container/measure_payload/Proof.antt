@@ -1,7 +1,7 @@
 -- `measure_payload` puts a payload into an output of no bytes. Assumes nothing.
-use Rattle.images.proofs.LawsTables.{in-front}
 use Rattle.images.proofs.LawsImage.{payload-measured}
 use borrow.Author.Needs.{needs}
+use Rattle.encoding.proofs.LawsOut.{none-before}
 use Rattle.images.proofs.container.measure_payload.Statement.{statement}
 use Rattle.images.proofs.container.measure_payload.Tie as tie
 
@@ -22,7 +22,7 @@ same-length c = search needs
 
 returns : tie.Need-returns
 returns c =
-    (payload-measured _ (c .before .out .given .0) (c .before .before .put-payload .ensures), in-front (c .before .before .put-payload .last .1 .1 .1 .1 .0) _ (c .before .out .given .0))
+    (payload-measured _ (c .before .out .given .0) (c .before .before .put-payload .ensures), none-before (c .before .before .put-payload .last .1 .1 .1 .1 .0) _ (c .before .out .given .0))
 
 pub measure-payload-spec : {M : Type 1} → statement M
 measure-payload-spec =

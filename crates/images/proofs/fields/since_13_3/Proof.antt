@@ -1,29 +1,22 @@
 -- `since_13_3` answers the number from 13.3 on. Assumes nothing.
-use mathlib.Core.Path.{refl, sym}
-use Rattle.enums.specs.declared.VersionClass.the-variants.{From13_3, From13_4}
-use Rattle.images.proofs.LawsTypes.{below-3, from-3}
+use mathlib.Core.Path.{sym, _∙_}
+use mathlib.Core.Bool.{false≢true}
 use borrow.Author.Needs.{needs}
+use Rattle.exact.proofs.LawsChoice.{choose-yes, choose-no}
+use Rattle.format.specs.Tests.{since3?}
+use Rattle.images.specs.declared.fields.Number.the-variants.{Absent}
 use Rattle.images.proofs.fields.since_13_3.Statement.{statement}
 use Rattle.images.proofs.fields.since_13_3.Tie as tie
 
-enum-told : tie.Need-enum-told
-enum-told c = search needs
-
-enum-told-2 : tie.Need-enum-told-2
-enum-told-2 c = search needs
-
-enum-told-3 : tie.Need-enum-told-3
-enum-told-3 c = search needs
+from-13-3-requires : tie.Need-from-13-3-requires
+from-13-3-requires c κs = search needs
 
 returns : tie.Need-returns
-returns c = rw (c .enum-told .given .1) (sym (below-3 _))
+returns c = sym (choose-yes (since3? (c .before .before .args .«class»)) (c .before .before .args .number) Absent (sym (c .before .from-13-3 .ensures) ∙ c .if1 .taken))
 
 returns-2 : tie.Need-returns-2
-returns-2 c = rw (c .enum-told2 .given .1) (sym (from-3 From13_3 _ refl))
-
-returns-3 : tie.Need-returns-3
-returns-3 c = rw (c .enum-told3 .given .1) (sym (from-3 From13_4 _ refl))
+returns-2 c =
+    sym (choose-no (since3? (c .before .before .args .«class»)) (c .before .before .args .number) Absent (λ h. false≢true (sym (c .if1 .left) ∙ c .before .from-13-3 .ensures ∙ h)))
 
 pub since-13-3-spec : {M : Type 1} → statement M
-since-13-3-spec =
-    tie.close (tie.spec enum-told enum-told-2 enum-told-3 returns returns-2 returns-3)
+since-13-3-spec = tie.close (tie.spec from-13-3-requires returns returns-2)

@@ -1,4 +1,6 @@
 -- `put_attribute` puts a debug attribute. Assumes nothing.
+use native.Mathlib.Omega.{arith}
+use Rattle.enums.proofs.LawsDebug.{counts-few}
 use Rattle.images.specs.Rows.{GoodRow, rowWords, rowRun, rowBytes}
 use Rattle.images.proofs.LawsRows.{attribute-copied}
 use borrow.Author.Needs.{needs}
@@ -18,7 +20,7 @@ copy-numbers-requires : tie.Need-copy-numbers-requires
 copy-numbers-requires c κs = search needs
 
 sub-copy-numbers : tie.Need-sub-copy-numbers
-sub-copy-numbers c = search needs
+sub-copy-numbers c = omega (arith, c .before .before .before .before .before .before .before .before .field-count .ensures, counts-few (c .before .before .before .before .before .before .before .before .before .word-at .result))
 
 copy-numbers-requires-2 : tie.Need-copy-numbers-requires-2
 copy-numbers-requires-2 c κs = search needs
@@ -32,7 +34,7 @@ returns c =
     record {
       each =
           λ a h.
-          attribute-copied a h (c .before .before .before .before .before .before .before .before .before .before .before .before .before .word-at .ensures) (c .before .before .before .before .before .before .before .before .before .before .before .before .field-count .ensures .0) (c .before .before .before .before .before .before .before .before .before .before .before .before .field-count .ensures .1) (c .before .before .before .before .before .before .before .before .before .before .copy-number .ensures) (c .before .before .before .before .before .before .copy-numbers .ensures) (c .before .before .copy-numbers2 .ensures);
+          attribute-copied a h (c .before .before .before .before .before .before .before .before .before .before .before .before .before .word-at .ensures) (c .before .before .before .before .before .before .before .before .before .before .before .before .field-count .ensures) (c .before .before .before .before .before .before .before .before .before .before .copy-number .ensures) (c .before .before .before .before .before .before .copy-numbers .ensures) (c .before .before .copy-numbers2 .ensures);
     }
 
 pub put-attribute-spec : {M : Type 1} → statement M

@@ -1,6 +1,7 @@
 -- `measure_row` puts a row into an output of no bytes. Assumes nothing.
-use Rattle.images.proofs.LawsTables.{row-measured, in-front}
+use Rattle.images.proofs.LawsTables.{row-measured}
 use borrow.Author.Needs.{needs}
+use Rattle.encoding.proofs.LawsOut.{none-before}
 use Rattle.images.proofs.tables.measure_row.Statement.{statement}
 use Rattle.images.proofs.tables.measure_row.Tie as tie
 
@@ -21,7 +22,7 @@ same-length c = search needs
 
 returns : tie.Need-returns
 returns c =
-    (row-measured _ (c .before .out .given .0) (c .before .before .put-row .ensures), in-front (c .before .before .put-row .last .1 .1 .1 .1 .0) _ (c .before .out .given .0))
+    (row-measured _ (c .before .out .given .0) (c .before .before .put-row .ensures), none-before (c .before .before .put-row .last .1 .1 .1 .1 .0) _ (c .before .out .given .0))
 
 pub measure-row-spec : {M : Type 1} → statement M
 measure-row-spec =

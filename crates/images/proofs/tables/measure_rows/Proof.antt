@@ -1,6 +1,7 @@
 -- `measure_rows` puts rows into an output of no bytes. Assumes nothing.
-use Rattle.images.proofs.LawsTables.{rows-measured, in-front}
+use Rattle.images.proofs.LawsTables.{rows-measured}
 use borrow.Author.Needs.{needs}
+use Rattle.encoding.proofs.LawsOut.{none-before}
 use Rattle.images.proofs.tables.measure_rows.Statement.{statement}
 use Rattle.images.proofs.tables.measure_rows.Tie as tie
 
@@ -21,7 +22,7 @@ same-length c = search needs
 
 returns : tie.Need-returns
 returns c =
-    (rows-measured _ (c .before .out .given .0) (c .before .before .put-rows .ensures), in-front (c .before .before .put-rows .last .1 .1 .1 .1 .1 .0) _ (c .before .out .given .0))
+    (rows-measured _ (c .before .out .given .0) (c .before .before .put-rows .ensures), none-before (c .before .before .put-rows .last .1 .1 .1 .1 .1 .0) _ (c .before .out .given .0))
 
 pub measure-rows-spec : {M : Type 1} → statement M
 measure-rows-spec =

@@ -1,6 +1,7 @@
 -- `judge_attribute` passes seven words, and looks at those behind the tag's fields. Assumes nothing.
 use native.Mathlib.Omega.{arith}
-use Rattle.judge.proofs.LawsRows.{attribute-unknown, attribute-steps, counts-few}
+use Rattle.enums.proofs.LawsDebug.{counts-few}
+use Rattle.judge.proofs.LawsRows.{attribute-unknown, attribute-steps}
 use Rattle.sheet.specs.Store.{wordsIn}
 use borrow.Author.Needs.{needs}
 use Rattle.judge.proofs.rows.judge_attribute.Statement.{statement}
@@ -16,7 +17,7 @@ field-count-requires : tie.Need-field-count-requires
 field-count-requires c κs = search needs
 
 add-pass-words : tie.Need-add-pass-words
-add-pass-words c = omega (arith, c .field-count .ensures, counts-few (c .before .before .value-at .result) (omega arith))
+add-pass-words c = omega (arith, c .field-count .ensures, counts-few (c .before .before .value-at .result))
 
 pass-words-requires : tie.Need-pass-words-requires
 pass-words-requires c κs = search needs

@@ -4,8 +4,9 @@ use mathlib.Core.Logic.{⊎-elim, inl, inr}
 use Prim.Native.Nat.{_<_}
 use native.Mathlib.Omega.{arith}
 use Rattle.format.specs.Types.{plainTags, among}
-use Rattle.judge.proofs.LawsKinds.{kind-as, kind-pointer, kind-tile, kind-tensor, kind-partition, kind-function, kind-gather, kind-strided, plain-steps, plain-low, unknown-steps}
+use Rattle.judge.proofs.LawsKinds.{kind-as, kind-pointer, kind-tile, kind-tensor, kind-partition, kind-function, kind-gather, kind-strided, plain-steps, unknown-steps}
 use borrow.Author.Needs.{needs}
+use Rattle.format.proofs.LawsTags.{plain-low}
 use Rattle.judge.proofs.types.judge_fields.Statement.{statement}
 use Rattle.judge.proofs.types.judge_fields.Tie as tie
 

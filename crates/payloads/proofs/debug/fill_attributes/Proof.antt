@@ -1,5 +1,5 @@
 -- `fill_attributes` puts the attributes one by one: whatever the rest leaves, all of them leave it. Assumes nothing.
-use mathlib.Core.Path.{_≡_, refl, ap, _∙_}
+use mathlib.Core.Path.{_≡_, refl}
 use Prim.Native.Nat.{ℕ, _+_, _*_, _-_, _^_, _≤_, _<_}
 use native.Mathlib.Omega.{arith}
 use mathlib.Core.Logic.{⊎-elim}
@@ -19,13 +19,13 @@ use Rattle.payloads.proofs.LawsDebug.{
   part-room,
   part-place,
   row-stop,
-  row-told,
   seven,
 }
 use borrow.Author.Needs.{needs}
 use borrow.Author.Tests.{ltb-true, ltb-false}
 use Rattle.payloads.proofs.debug.fill_attributes.Statement.{statement}
 use Rattle.payloads.proofs.debug.fill_attributes.Tie as tie
+use Rattle.payloads.proofs.LawsTypeEntries.{row-told}
 
 abbrev Inv-loop : tie.InvT-loop
 Inv-loop payload attributes sheet₀ size word₀ start₀ i₀ sheet word start i =

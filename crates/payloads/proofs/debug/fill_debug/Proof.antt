@@ -1,10 +1,11 @@
 -- `fill_debug` puts the attributes and then the lists. Assumes nothing.
 use native.Mathlib.Omega.{arith}
 use Rattle.payloads.proofs.LawsTables.{starts-counted, starts-few}
-use Rattle.payloads.proofs.LawsDebug.{row-told, attributes-word, attributes-refused, lists-refused, debug-filled}
+use Rattle.payloads.proofs.LawsDebug.{attributes-word, attributes-refused, lists-refused, debug-filled}
 use borrow.Author.Needs.{needs}
 use Rattle.payloads.proofs.debug.fill_debug.Statement.{statement}
 use Rattle.payloads.proofs.debug.fill_debug.Tie as tie
+use Rattle.payloads.proofs.LawsTypeEntries.{row-told}
 
 fill-attributes-requires : tie.Need-fill-attributes-requires
 fill-attributes-requires c κs = (c .before .before .before .pre .1 .1 .0, c .before .before .before .pre .1 .1 .1)

@@ -1,5 +1,5 @@
 -- `parse_attribute` follows the model of one attribute: its tag, its varints, and zeros. Assumes nothing.
-use mathlib.Core.Path.{refl, sym, ap, _∙_}
+use mathlib.Core.Path.{sym, ap}
 use native.Mathlib.Omega.{arith}
 use mathlib.Core.List.{[]}
 use Rattle.reading.proofs.LawsShown.{told-byte}
@@ -22,6 +22,9 @@ returns : tie.Need-returns
 returns c =
     let t = told-byte (c .before .before .tag .given .1) (c .before .before .before .before .read-byte .ensures) in
     row-stop _ _ _ _ _ (one-unknown _ _ _ t (c .if1 .taken))
+
+cast-field-count : tie.Need-cast-field-count
+cast-field-count c = search needs
 
 field-count-requires : tie.Need-field-count-requires
 field-count-requires c κs = search needs
@@ -92,6 +95,7 @@ parse-attribute-spec =
     enum-known-x
     enum-known-tag
     returns
+    cast-field-count
     field-count-requires
     cast-put-value
     put-value-requires

@@ -1,9 +1,9 @@
 -- `fill_debug` is the last step of a pass: two tables. Assumes nothing.
-use Prim.Native.Nat.{ℕ, _*_, _^_, _≤_}
 use native.Mathlib.Omega.{arith}
-use Rattle.payloads.proofs.LawsPass.{known-bytes, roomy-fits, roomy-room, goes-stop}
+use Rattle.payloads.proofs.LawsPass.{roomy-fits, roomy-room, goes-stop}
 use Rattle.payloads.proofs.LawsDebugging.{debug-refused, debug-goes, debug-bound, attributes-few}
 use borrow.Author.Needs.{needs}
+use Rattle.format.proofs.LawsSoundItems.{known-bytes}
 use Rattle.payloads.proofs.pass.fill_debug.Statement.{statement}
 use Rattle.payloads.proofs.pass.fill_debug.Tie as tie
 

@@ -1,8 +1,8 @@
 -- `fill_table` is one step of a pass. Assumes nothing.
-use Prim.Native.Nat.{ℕ}
 use native.Mathlib.Omega.{arith}
-use Rattle.payloads.proofs.LawsPass.{known-bytes, roomy-fits, number-small, goes-stop, table-refused, table-goes, in-place-bound}
+use Rattle.payloads.proofs.LawsPass.{roomy-fits, number-small, goes-stop, table-refused, table-goes, in-place-bound}
 use borrow.Author.Needs.{needs}
+use Rattle.format.proofs.LawsSoundItems.{known-bytes}
 use Rattle.payloads.proofs.pass.fill_table.Statement.{statement}
 use Rattle.payloads.proofs.pass.fill_table.Tie as tie
 

@@ -6,8 +6,9 @@ use native.Mathlib.Omega.{arith}
 use mathlib.Core.Bool.{true}
 use Rattle.format.specs.Types.{plainTags, among}
 use Rattle.payloads.proofs.LawsTypes.{spare-tag, tag-within, within-most}
-use Rattle.payloads.proofs.LawsTypeEntries.{row-as, kind-pointer, kind-tile, kind-tensor, kind-partition, kind-function, kind-gather, kind-strided, plain-low, plain-row, unknown-row, within-first}
+use Rattle.payloads.proofs.LawsTypeEntries.{row-as, kind-pointer, kind-tile, kind-tensor, kind-partition, kind-function, kind-gather, kind-strided, plain-row, unknown-row, within-first}
 use borrow.Author.Needs.{needs}
+use Rattle.format.proofs.LawsTags.{plain-low}
 use Rattle.payloads.proofs.types.decode_fields.Statement.{statement}
 use Rattle.payloads.proofs.types.decode_fields.Tie as tie
 

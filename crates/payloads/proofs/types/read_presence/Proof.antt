@@ -3,8 +3,9 @@ use Rattle.reading.proofs.LawsShown.{told-byte}
 use Rattle.payloads.proofs.LawsFields.{copied-stop, grows-stop, grows-refused}
 use Rattle.payloads.specs.declared.fields.Number.the-variants.{Byte}
 use Rattle.payloads.specs.Fields.{numberAt}
-use Rattle.payloads.proofs.LawsTypeEntries.{truth-zero, truth-one, presence-got, presence-stop, grows-presence}
+use Rattle.payloads.proofs.LawsTypeEntries.{presence-got, presence-stop, grows-presence}
 use borrow.Author.Needs.{needs}
+use Rattle.format.proofs.LawsItems.{truth-zero, truth-one}
 use Rattle.payloads.proofs.types.read_presence.Statement.{statement}
 use Rattle.payloads.proofs.types.read_presence.Tie as tie
 

@@ -1,9 +1,9 @@
 -- `image_length` answers the image's length or its refusal. Assumes nothing.
 use mathlib.Core.Path.{_∙_}
 use borrow.Author.Tests.{not-true, not-false}
-use Rattle.images.proofs.LawsTables.{in-front}
 use Rattle.writer.proofs.LawsWrites.{told-start, told-pool, told-large, told-fine}
 use borrow.Author.Needs.{needs}
+use Rattle.encoding.proofs.LawsOut.{none-before}
 use Rattle.writer.proofs.judged.image_length.Statement.{statement}
 use Rattle.writer.proofs.judged.image_length.Tie as tie
 
@@ -44,14 +44,14 @@ same-length-3 c = search needs
 
 returns-3 : tie.Need-returns-3
 returns-3 c =
-    (told-large (c .before .before .before .before .before .before .before .before .before .before .starts-fit .ensures .0) (not-false _ (c .before .before .before .before .before .before .before .if1 .left)) (c .before .before .before .before .before .before .word-at .ensures) (c .before .before .before .before .before .if2 .left) _ (c .before .before .out2 .given .0) (c .before .before .before .put-image .ensures) (c .if3 .taken), in-front (c .before .before .before .put-image .last .1 .1 .0) _ (c .before .before .out2 .given .0) ∙ c .before .before .before .before .before .before .before .before .before .before .starts-fit .ensures .1)
+    (told-large (c .before .before .before .before .before .before .before .before .before .before .starts-fit .ensures .0) (not-false _ (c .before .before .before .before .before .before .before .if1 .left)) (c .before .before .before .before .before .before .word-at .ensures) (c .before .before .before .before .before .if2 .left) _ (c .before .before .out2 .given .0) (c .before .before .before .put-image .ensures) (c .if3 .taken), none-before (c .before .before .before .put-image .last .1 .1 .0) _ (c .before .before .out2 .given .0) ∙ c .before .before .before .before .before .before .before .before .before .before .starts-fit .ensures .1)
 
 same-length-4 : tie.Need-same-length-4
 same-length-4 c = search needs
 
 returns-4 : tie.Need-returns-4
 returns-4 c =
-    (told-fine (c .before .before .before .before .before .before .before .before .before .before .starts-fit .ensures .0) (not-false _ (c .before .before .before .before .before .before .before .if1 .left)) (c .before .before .before .before .before .before .word-at .ensures) (c .before .before .before .before .before .if2 .left) _ (c .before .before .out2 .given .0) (c .before .before .before .put-image .ensures) (c .if3 .left), in-front (c .before .before .before .put-image .last .1 .1 .0) _ (c .before .before .out2 .given .0) ∙ c .before .before .before .before .before .before .before .before .before .before .starts-fit .ensures .1)
+    (told-fine (c .before .before .before .before .before .before .before .before .before .before .starts-fit .ensures .0) (not-false _ (c .before .before .before .before .before .before .before .if1 .left)) (c .before .before .before .before .before .before .word-at .ensures) (c .before .before .before .before .before .if2 .left) _ (c .before .before .out2 .given .0) (c .before .before .before .put-image .ensures) (c .if3 .left), none-before (c .before .before .before .put-image .last .1 .1 .0) _ (c .before .before .out2 .given .0) ∙ c .before .before .before .before .before .before .before .before .before .before .starts-fit .ensures .1)
 
 pub image-length-spec : {M : Type 1} → statement M
 image-length-spec =
