@@ -1,27 +1,25 @@
 -- What header and walk give: how the code follows it, and what the model of the whole file and the layout make of it.
 -- Assumes nothing.
 use mathlib.Core.Path.{_≡_, refl, ap, _∙_}
-use Prim.Native.Nat.{ℕ, _+_, _≤_, _<_}
-use native.Mathlib.Nat.{zero-add}
+use Prim.Native.Nat.{ℕ, _≤_, _<_}
 use native.Mathlib.Omega.{arith}
 use native.Mathlib.Decide.{decLe}
-use mathlib.Core.List.{List, _++_}
+use mathlib.Core.List.{List}
 use lib.ListN.{length}
 use denote.Enum.Declared.{tagOf}
 use Rattle.exact.specs.Got.{Got, got, stop}
 use Rattle.exact.specs.Choice.{choose}
-use Rattle.exact.proofs.LawsExact.{drop-past}
 use Rattle.exact.proofs.LawsChoice.{choose-yes, choose-no}
 use Rattle.enums.specs.Refusals as refusals
 use Rattle.reading.specs.declared.Refused.{Refused}
 use Rattle.format.specs.Tables.{Version}
-use Rattle.format.specs.Sections.{Section, Sections}
+use Rattle.format.specs.Sections.{Section}
 use Rattle.format.specs.Explains.{Container}
 use Rattle.format.specs.Read.{Read, accepted, refused, atStage}
 use Rattle.format.specs.DecodeContainer.{headerAt, sectionsAt}
 use Rattle.format.specs.Decode.{mostBytes, payloads, readPlaced, placed}
 use Rattle.format.specs.Views.{andThen, readSections}
-use Rattle.format.proofs.LawsContainer.{header-exact, sections-exact}
+use Rattle.format.proofs.Decoded.{container-read}
 use Rattle.container.specs.declared.sections.Stopped.{Stopped}
 use Rattle.container.specs.declared.sections.RawSections.{RawSections}
 use Rattle.container.specs.declared.sections.Container.{Container as Held}
@@ -123,9 +121,5 @@ sections-opened file = then-opened (λ v ss. accepted ss) file (decLe (length fi
 pub container-opened : (file : List ℕ) (v : Version) (ss : List Section) → Container file v ss →
     length file ≤ mostBytes →
     opened file ≡ accepted (record { version = v; sections = ss })
-container-opened file v ss c n =
-    let h = header-exact .complete file 0 (c .header) (c .walked ++ c .after) v (c .headed) (c .whole) in
-    let j : ℕ = 0 + length (c .header) in
-    let d = drop-past file 0 (c .header) (c .walked ++ c .after) (c .whole) in
-    let t : Sections j (c .walked) ss = rw zero-add (c .laid) in
-    opened-got file n v j h ss _ (sections-exact .complete file j (c .walked) (c .after) ss t d)
+unfolding opened
+container-opened file v ss c n = choose-yes (decLe (length file) mostBytes) _ _ n ∙ container-read both file v ss c

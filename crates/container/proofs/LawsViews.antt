@@ -13,14 +13,13 @@ use Rattle.exact.proofs.LawsChoice.{choose-yes, choose-no}
 use Rattle.enums.specs.Container.{numSections}
 use Rattle.enums.specs.Refusals as refusals
 use Rattle.reading.proofs.LawsShown.{only}
-use Rattle.format.specs.Tables.{Version}
 use Rattle.format.specs.Sections.{Section}
-use Rattle.format.specs.Explains.{Container}
 use Rattle.format.specs.Read.{Read, accepted, refused}
 use Rattle.format.specs.DecodeContainer.{lastWith, placeOf}
+use Rattle.format.specs.SameToEnd.{SameToEnd}
 use Rattle.format.specs.Decode.{mostBytes}
 use Rattle.format.specs.Views.{Span, andThen, payloadSpan, sectionView}
-use Rattle.format.proofs.AfterEnd.{withAfter}
+use Rattle.format.proofs.AfterEnd.{section-view-after}
 use Rattle.format.proofs.LawsLast.{last-some}
 use Rattle.format.proofs.Viewed.{section-viewed}
 use Rattle.container.specs.declared.ViewRead.{ViewRead}
@@ -135,26 +134,7 @@ view-only = only viewOf backView sameView
 pub section-only : (file : List ℕ) (id : ℕ) (r q : ViewRead) → SectionPost file id r → SectionPost file id q → r ≡ q
 section-only file id r q x y = view-only (x .answer) (y .answer)
 
-same-opened : (file other : List ℕ) (id : ℕ) → opened file ≡ opened other → sectionView file id ≡ sectionView other id
-unfolding sectionView
-same-opened file other id e =
-    let opens = ap (λ o. andThen o (λ x. accepted (x .sections))) e in
-    ap (λ r. andThen r (λ ss. choose (decLt id numSections) (payloadSpan (lastWith id ss)) notThere))
-    (sections-opened file ∙ opens ∙ sym (sections-opened other))
-
--- Other bytes after the end marker, within the limit, change no view of a section.
-pub section-after : (file : List ℕ) (v : Version) (ss : List Section) (c : Container file v ss) (other : List ℕ)
-    (id : ℕ) → length file ≤ mostBytes → length (withAfter c other) ≤ mostBytes →
-    sectionView (withAfter c other) id ≡ sectionView file id
-section-after file v ss c other id n m =
-    let d : Container (withAfter c other) v ss =
-    record {
-      header = c .header;
-      walked = c .walked;
-      after = other;
-      whole = refl;
-      headed = c .headed;
-      laid = c .laid;
-    } in
-    same-opened (withAfter c other) file id
-    (container-opened (withAfter c other) v ss d m ∙ sym (container-opened file v ss c n))
+-- Nor do other bytes after the end marker change the answer.
+pub section-after : {file other : List ℕ} → SameToEnd file other → (id : ℕ) (r q : ViewRead) → SectionPost file id r →
+    SectionPost other id q → r ≡ q
+section-after e id r q x y = view-only (x .answer) (y .answer ∙ sym (section-view-after e id))

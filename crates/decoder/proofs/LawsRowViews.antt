@@ -1,5 +1,5 @@
--- The views of strings, constants and bodies: how the code follows their model, that it keeps their promise, that the
--- promise allows one answer only, and that bytes after the end marker do not matter. Assumes nothing.
+-- The views of strings, constants and bodies: how the code follows their model, that it keeps their promise, and that the
+-- promise allows one answer only. Assumes nothing.
 use mathlib.Core.Path.{_≡_, refl, sym, ap, subst, _∙_}
 use Prim.Native.Nat.{ℕ, _+_, _-_, _≤_, _<_}
 use native.Mathlib.Omega.{arith}
@@ -16,15 +16,14 @@ use Rattle.exact.proofs.LawsExact.{got-value}
 use Rattle.exact.proofs.LawsChoice.{choose-no}
 use Rattle.exact.proofs.LawsEntries.{raised-inv}
 use Rattle.enums.specs.Container.{stringId, constantId, funcId, numSections}
-use Rattle.format.specs.Tables.{Version}
 use Rattle.format.specs.Sections.{Section, Last}
 use Rattle.format.specs.Strings.{noRows}
-use Rattle.format.specs.Explains.{Placed, Container, Layout}
+use Rattle.format.specs.Explains.{Placed, Layout}
 use Rattle.format.specs.Read.{Read, accepted, refused, mapRead}
 use Rattle.format.specs.DecodeContainer.{lastWith, placeOf as placedAt, inSection}
 use Rattle.format.specs.DecodeTables.{stringsAt, constantsAt}
 use Rattle.format.specs.DecodeRows.{functionsAt}
-use Rattle.format.specs.Decode.{mostBytes, placed, onlyTables, decode}
+use Rattle.format.specs.Decode.{placed, onlyTables, decode}
 use Rattle.format.specs.Stands.{Stands}
 use Rattle.format.specs.Views.{Span, andThen, spanOf, rowSpan, rowView, Viewed}
 use Rattle.format.proofs.LawsTables.{strings-ends, constants-ends}
@@ -34,7 +33,6 @@ use Rattle.format.proofs.LawsStands.{stands-bytes}
 use Rattle.format.proofs.Decoded.{refused-not-accepted, placed-sound}
 use Rattle.format.proofs.RowPlaced.{section-placed}
 use Rattle.format.proofs.Viewed.{string-viewed, constant-viewed, body-viewed, view-complete}
-use Rattle.format.proofs.AfterEnd.{withAfter, after-answer}
 use Rattle.container.specs.declared.ViewRead.{ViewRead}
 use Rattle.container.specs.declared.sections.SectionPlace.{SectionPlace}
 use Rattle.container.specs.Container.{heldPlace, nowhere, opened, heldContainer}
@@ -269,16 +267,7 @@ row-post k file n r e =
       complete = λ x l m h. e ∙ view-complete (rowsOf k) file x l m n h;
     }
 
-module _ (rowsIn : Placed → Rows (List ℕ)) where
-  -- The contract of a view allows one answer.
-  pub row-only : (id : ℕ) (file : List ℕ) (n : ℕ) (r q : ViewRead) → RowPost rowsIn id file n r →
-      RowPost rowsIn id file n q → r ≡ q
-  row-only id file n r q x y = view-only (x .answer) (y .answer)
-
-  -- Other bytes after the end marker, within the limit, change no view of a row.
-  pub row-after : (file : List ℕ) (v : Version) (ss : List Section) (c : Container file v ss) (other : List ℕ) (n : ℕ) →
-      length file ≤ mostBytes → length (withAfter c other) ≤ mostBytes →
-      rowView rowsIn (withAfter c other) n ≡ rowView rowsIn file n
-  unfolding rowView
-  row-after file v ss c other n h m =
-      ap (λ r. andThen r (λ x. rowSpan (rowsIn x) n)) (after-answer file v ss c other h m)
+-- The contract of a view allows one answer.
+pub row-only : (rowsIn : Placed → Rows (List ℕ)) (id : ℕ) (file : List ℕ) (n : ℕ) (r q : ViewRead) → RowPost rowsIn id file n r →
+    RowPost rowsIn id file n q → r ≡ q
+row-only rowsIn id file n r q x y = view-only (x .answer) (y .answer)

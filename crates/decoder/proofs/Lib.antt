@@ -1,2 +1,3 @@
 pub mod LawsFile
 pub mod LawsRowViews
+pub mod LawsAfter

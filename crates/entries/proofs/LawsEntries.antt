@@ -2,13 +2,13 @@
 -- a start, the padding before the starts, and what reads an entry. Assumes nothing.
 use mathlib.Core.Path.{_≡_, refl, sym, ap, _∙_, subst}
 use Prim.Native.Nat.{ℕ, zero, suc, _+_, _*_, _-_, _≤_, _<_}
-use native.Mathlib.Nat.{zero-mul, add-zero}
+use native.Mathlib.Nat.{zero-mul, add-zero, mul-le-mul-left}
 use native.Mathlib.Omega.{arith}
 use native.Mathlib.Decide.{decLe, ℕ-discrete}
 use mathlib.Core.Option.{none, some}
 use mathlib.Core.List.{List, [], _∷_}
 use lib.ListN.{length, take, drop, length-drop}
-use lib.Seq.{drop-drop, drop-at, take-add, take-take, length-take-le}
+use lib.Seq.{drop-drop, drop-at, take-all, take-add, take-take, length-take-le, length-slice}
 use Rattle.exact.specs.Got.{Got, got, stop, follow}
 use Rattle.exact.specs.Exact.{Parser}
 use Rattle.exact.specs.Basic.{pure}
@@ -19,7 +19,7 @@ use Rattle.exact.specs.Fixed.{little, fixed, nums}
 use Rattle.exact.specs.Padding.{pad, here}
 use Rattle.exact.specs.Upto.{upto}
 use Rattle.exact.specs.Tiling.{cut, endOf}
-use Rattle.exact.specs.Entries.{raised, cutLeast, entry, entriesOf, rows, entries}
+use Rattle.exact.specs.Entries.{Rows, raised, cutLeast, entry, entriesOf, from, rows, entries}
 use Rattle.exact.proofs.LawsExact.{stop-not-got, got-value, got-next}
 use Rattle.exact.proofs.LawsChoice.{choose-yes, choose-no}
 use Rattle.exact.proofs.LawsSequence.{follow-inv, follow-follow}
@@ -34,7 +34,7 @@ use Rattle.reading.proofs.LawsPlaced.{placed-got, times-got}
 use Rattle.reading.proofs.LawsInside.{exact-inside}
 use Rattle.format.specs.Strings.{noRows}
 use Rattle.format.specs.DecodeTables.{shape, paddedAt, offsetTableAt}
-use Rattle.entries.specs.Starts.{behindCount, noStarts, startsAt, arrayAt, gotStarts, Lies, numberOr, bounded, endAt}
+use Rattle.entries.specs.Starts.{behindCount, noStarts, startsAt, arrayAt, numbersIn, gotStarts, Lies, numberOr, bounded, endAt}
 use Rattle.entries.specs.declared.starts.Starts.{Starts}
 use Rattle.entries.specs.declared.starts.StartsRead.the-variants as starts
 use Rattle.entries.proofs.LawsStarts.{number-read, number-other, end-got, end-stop}
@@ -163,9 +163,52 @@ module _ {A : Type 0} (p : Parser A) (w a o : ℕ) (l : List ℕ) where
   unfolding follow
   offset-got i f ss j e = offset-starts i ∙ rw e
 
+  -- The values of a table do not depend on where it stands.
+  pub rows-values : (ss : List ℕ) (i : ℕ) →
+      follow (rows o refusals.bounds 0 p ss l i) (λ v j. got (v .values) j) ≡ entriesOf refusals.bounds 0 p ss i (length l) (drop i l)
+  unfolding rows follow
+  rows-values ss i = go (entriesOf refusals.bounds 0 p ss i (length l) (drop i l))
+    where
+      go : (g : Got (List A)) →
+          follow (follow {B = Rows A} g (λ vs j. got (record { at = from (o + i) ss; values = vs }) j)) (λ v j. got (v .values) j) ≡ g
+      go (got vs j) = refl
+      go (stop c k) = refl
+
+  pub table-values : (i : ℕ) →
+      follow (offsetTableAt w a o p l i) (λ v j. got (v .values) j) ≡
+      follow (startsAt w a l i) (λ x j. entriesOf refusals.bounds 0 p (x .1) j (length l) (drop j l))
+  unfolding follow
+  table-values i = ap (λ g. follow g (λ v j. got (v .values) j)) (offset-starts i) ∙ go (startsAt w a l i)
+    where
+      go : (g : Got (ℕ × List ℕ)) →
+          follow (follow g (λ x j. rows o refusals.bounds 0 p (x .1) l j)) (λ v j. got (v .values) j) ≡
+          follow g (λ x j. entriesOf refusals.bounds 0 p (x .1) j (length l) (drop j l))
+      go (got x j) = rows-values (x .1) j
+      go (stop c k) = refl
+
+-- There are as many as starts.
+pub entries-count : {A : Type 0} (c m : ℕ) (p : Parser A) (ss : List ℕ) (b n : ℕ) (d : List ℕ) (vs : List A) (k : ℕ) →
+    entriesOf c m p ss b n d ≡ got vs k → length vs ≡ length ss
+unfolding entriesOf
+entries-count c m p [] b n d vs k e = ap length (sym (got-value e))
+entries-count c m p (s ∷ ss) b n d vs k e =
+    let (v, j, f, g) = follow-inv (entry c p (b + s) (cutLeast m s (endOf ss d) d)) _ vs k e in
+    let (us, i, x, y) = follow-inv (entriesOf c m p ss b n d) _ vs k g in
+    sym (ap length (got-value y)) ∙ ap suc (entries-count c m p ss b n d us i x)
+
 -- The part of the payload that the starts are.
 abbrev pub runOf : List ℕ → Starts → List ℕ
 runOf l s = take (s .data - s .first) (drop (s .first) l)
+
+-- The data behind them, as the code cuts it.
+abbrev pub restOf : List ℕ → Starts → List ℕ
+restOf l s = take (length l - s .data) (drop (s .data) l)
+
+pub rest-is : (l : List ℕ) (s : Starts) → restOf l s ≡ drop (s .data) l
+rest-is l s = take-all (length l - s .data) (drop (s .data) l) (omega (arith, length-drop (s .data) l))
+
+pub rest-length : (l : List ℕ) (s : Starts) → length (restOf l s) ≡ length l - s .data
+rest-length l s = ap length (rest-is l s) ∙ length-drop (s .data) l
 
 nums-take : (n w : ℕ) (s : List ℕ) → n * w ≤ length s → nums n w (take (n * w) s) ≡ nums n w s
 unfolding nums
@@ -184,16 +227,20 @@ module _ (w : ℕ) (l : List ℕ) (s : Starts) (lies : Lies w l s) where
   run-long = omega (arith, lies .behind)
 
   -- It has the bytes of all starts ..
-  run-length : length (runOf l s) ≡ s .count * w
+  pub run-length : length (runOf l s) ≡ s .count * w
   run-length =
       let m : s .count * w ≤ length (drop (s .first) l) = omega (arith, lies .behind, lies .inside, length-drop (s .first) l) in
       rw run-long (length-take-le (s .count * w) (drop (s .first) l) m)
 
   -- .. and so these are its numbers.
-  run-nums : nums (s .count) w (runOf l s) ≡ nums (s .count) w (drop (s .first) l)
+  pub run-nums : nums (s .count) w (runOf l s) ≡ numbersIn w l s
   run-nums =
       let m : s .count * w ≤ length (drop (s .first) l) = omega (arith, lies .behind, lies .inside, length-drop (s .first) l) in
       rw run-long (nums-take (s .count) w (drop (s .first) l) m)
+
+-- There are not more of them than bytes.
+pub starts-few : (w : ℕ) (l : List ℕ) (s : Starts) → 0 < w → Lies w l s → s .count ≤ length l
+starts-few w l s h lies = omega (arith, lies .behind, lies .inside, mul-le-mul-left {m = 1} {n = w} (s .count) h)
 
 -- The starts of the last k entries, where the first of them begins at s, and the starts behind it stand from i on.
 abbrev pub ahead : ℕ → List ℕ → ℕ → ℕ → ℕ → List ℕ
@@ -239,10 +286,20 @@ before-ends w n run d h (suc k) s i b = refl
 
 -- So a cursor begins before all entries of a table.
 pub run-first : (w n : ℕ) (l : List ℕ) (t : Starts) → 0 < w → Lies w l t → (s j : ℕ) → got s j ≡ numberOr w n (runOf l t) 0 →
-    Before w n (runOf l t) (t .count) s j × (nums (t .count) w (drop (t .first) l) ≡ ahead w (runOf l t) (t .count) s j)
+    Before w n (runOf l t) (t .count) s j × (numbersIn w l t ≡ ahead w (runOf l t) (t .count) s j)
 run-first w n l t bytes lies s j e =
     let (b, a) = before-all w n (runOf l t) bytes (t .count) s j (run-length w l t lies) e in
     (b, sym (run-nums w l t lies) ∙ a)
+
+-- A part of the data, as the code cuts it.
+pub part-is : (x y : ℕ) (d : List ℕ) → x ≤ y → y ≤ length d → take (y - x) (drop x d) ≡ drop x (take y d)
+part-is x y d p q =
+    let e : y ≡ x + (y - x) = omega arith in
+    sym (ap (λ k. drop x (take k d)) e ∙ ap (drop x) (take-add x (y - x) d) ∙
+    drop-at (take x d) (take (y - x) (drop x d)) x (length-take-le x d (omega arith)))
+
+pub part-length : (x y : ℕ) (d : List ℕ) → x ≤ y → y ≤ length d → length (take (y - x) (drop x d)) ≡ y - x
+part-length x y d p q = ap length (part-is x y d p q) ∙ length-slice x y d q
 
 -- What is cut ..
 cut-in : (m s e : ℕ) (d : List ℕ) → s + m ≤ e → e ≤ length d → cutLeast m s e d ≡ some (drop s (take e d))

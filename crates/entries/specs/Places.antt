@@ -5,13 +5,12 @@ use Prim.Native.Nat.{ℕ, _+_, _<_}
 use native.Mathlib.Decide.{decLt}
 use mathlib.Core.Option.{Option, none, some}
 use mathlib.Core.List.{List, map}
-use lib.ListN.{length, drop}
+use lib.ListN.{length}
 use Rattle.exact.specs.Got.{Got, got, stop, follow}
 use Rattle.exact.specs.Exact.{Parser}
 use Rattle.exact.specs.Sequence as sequence
 use Rattle.exact.specs.Choice.{choose}
 use Rattle.exact.specs.Repeat.{times}
-use Rattle.exact.specs.Fixed.{nums}
 use Rattle.exact.specs.Upto.{whole}
 use Rattle.exact.specs.Entries.{Rows, rows}
 use Rattle.enums.specs.Refusals as refusals
@@ -20,6 +19,7 @@ use Rattle.format.specs.Functions.{apart}
 use Rattle.format.specs.DecodeTables.{offsetTableAt}
 use Rattle.format.specs.DecodeRows.{functionAt, functionsAt}
 use Rattle.format.specs.Views.{Span, spanOf, bodyOf}
+use Rattle.entries.specs.Starts.{numbersIn}
 use Rattle.entries.specs.declared.starts.Starts.{Starts}
 use Rattle.entries.specs.declared.places.PlaceRead.{PlaceRead}
 use Rattle.entries.specs.declared.places.PlaceRead.the-variants as place
@@ -55,7 +55,7 @@ bodiesFrom o m l i = follow (times m (functionAt o) l i) (λ vs j. got (bodiesOf
 
 -- The entries that starts of w bytes cut out of the data behind them.
 unfoldable pub entriesIn : ℕ → ℕ → List ℕ → Starts → Got (Rows (List ℕ))
-entriesIn o w l s = rows o refusals.bounds 0 whole (nums (s .count) w (drop (s .first) l)) l (s .data)
+entriesIn o w l s = rows o refusals.bounds 0 whole (numbersIn w l s) l (s .data)
 
 -- The table whose starts have w bytes.
 abbrev pub tableAt : ℕ → ℕ → List ℕ → Got (Rows (List ℕ))

@@ -44,9 +44,13 @@ startsAt w a = bind varintAt (λ n. choose (ℕ-discrete n 0) noStarts (behindCo
 unfoldable pub arrayAt : ℕ → ℕ → Parser (ℕ × List ℕ)
 arrayAt w a = bind varintAt (behindCount w a)
 
--- The place of the first start, and the numbers that stand there.
+-- The numbers of w bytes that stand where they are said to stand.
+abbrev pub numbersIn : ℕ → List ℕ → Starts → List ℕ
+numbersIn w l s = nums (s .count) w (drop (s .first) l)
+
+-- The place of the first start, and the starts.
 abbrev pub gotStarts : ℕ → List ℕ → StartsRead → Got (ℕ × List ℕ)
-gotStarts w l (starts.Got s) = got (s .first, nums (s .count) w (drop (s .first) l)) (s .data)
+gotStarts w l (starts.Got s) = got (s .first, numbersIn w l s) (s .data)
 gotStarts w l (starts.Stop x) = stop (x .no) (x .at)
 
 -- Starts of w bytes that are all in the payload l, with the data right behind them.

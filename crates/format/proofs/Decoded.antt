@@ -62,10 +62,11 @@ container-of file v j ss k h g =
       laid = subst (λ i. Sections i (b .bytes) ss) n (b .spelt);
     }
 
--- .. and a container is read by its payloads.
-pub read-container : (file : List ℕ) (v : Version) (ss : List Section) → Container file v ss → readPlaced file ≡ payloads v ss
-unfolding readPlaced
-read-container file v ss c =
+-- .. and a container is read by what goes on with its version and its sections.
+pub container-read : {A : Type 0} (k : Version → List Section → Read A) (file : List ℕ) (v : Version) (ss : List Section) →
+    Container file v ss →
+    atStage refusals.atHeader (headerAt file 0) (λ u j. atStage refusals.atSections (sectionsAt file j) (λ ts _. k u ts)) ≡ k v ss
+container-read k file v ss c =
     let h = header-exact .complete file 0 (c .header) (c .walked ++ c .after) v (c .headed) (c .whole) in
     let d : drop (0 + length (c .header)) file ≡ c .walked ++ c .after = drop-past file 0 (c .header) (c .walked ++ c .after) (c .whole) in
     let t : Sections (0 + length (c .header)) (c .walked) ss = rw zero-add (c .laid) in
@@ -129,7 +130,8 @@ module _ (file : List ℕ) (x : Placed) where
 
   -- .. and what is laid out so is read.
   read-complete : Layout file x → readPlaced file ≡ accepted x
-  read-complete l = read-container file (x .tables .version) (l .sections) (l .container) ∙ payloads-complete l
+  unfolding readPlaced
+  read-complete l = container-read payloads file (x .tables .version) (l .sections) (l .container) ∙ payloads-complete l
 
 -- A file has one layout: tables and places.
 pub layout-only : (file : List ℕ) (x y : Placed) → Layout file x → Layout file y → x ≡ y
@@ -161,6 +163,11 @@ pub map-inv : {A B : Type 0} (f : A → B) (r : Read A) (w : B) → mapRead f r 
 unfolding mapRead
 map-inv f (accepted v) w e = (v, refl, accepted-value e)
 map-inv f (refused c n i) w e = absurd (refused-not-accepted e)
+
+pub map-refused : {A B : Type 0} (f : A → B) (r : Read A) (c n i : ℕ) → mapRead f r ≡ refused c n i → r ≡ refused c n i
+unfolding mapRead
+map-refused f (accepted v) c n i e = absurd (refused-not-accepted (sym e))
+map-refused f (refused d m j) c n i e = cc
 
 -- Accepted tables are what the file's bytes stand for ..
 pub decode-sound : (file : List ℕ) (t : Tables) → decode file ≡ accepted t → Explains file t

@@ -23,6 +23,7 @@ pub mod ExampleRefusals
 pub mod Examples
 pub mod ExamplesExplained
 pub mod Viewed
+pub mod Stored
 pub mod LawsWalk
 pub mod LawsImageItems
 pub mod LawsImageTypes

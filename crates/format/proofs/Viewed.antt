@@ -22,7 +22,7 @@ use Rattle.format.proofs.Decoded.{accepted-value, refused-not-accepted,
 use Rattle.format.proofs.RowPlaced.{section-placed, row-placed}
 use Rattle.format.proofs.LawsLast.{Counts, none-counts, last-counts, last-with}
 
-then-inv : {A B : Type 0} (r : Read A) (f : A → Read B) (w : B) → andThen r f ≡ accepted w → (v : A) × (r ≡ accepted v) × (f v ≡ accepted w)
+pub then-inv : {A B : Type 0} (r : Read A) (f : A → Read B) (w : B) → andThen r f ≡ accepted w → (v : A) × (r ≡ accepted v) × (f v ≡ accepted w)
 unfolding andThen
 then-inv (accepted v) f w e = (v, refl, e)
 then-inv (refused c n i) f w e = absurd (refused-not-accepted e)

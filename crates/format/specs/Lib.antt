@@ -22,5 +22,7 @@ pub mod DecodeDebug
 pub mod Decode
 pub mod Stands
 pub mod Views
+pub mod Stores
+pub mod SameToEnd
 pub mod Write
 pub mod Refusals

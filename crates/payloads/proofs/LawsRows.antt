@@ -1,47 +1,34 @@
--- The steps of the readers of Global and Func, by the model. Assumes nothing.
+-- The rows of Global and Func in the stores, by the model. Assumes nothing.
 use mathlib.Core.Path.{_≡_, refl, sym, ap, _∙_, subst}
-use Prim.Native.Nat.{ℕ, suc, _+_, _-_, _/_, _%_, _≤_, _<_}
-use native.Mathlib.Decide.{ℕ-discrete}
+use Prim.Native.Nat.{ℕ, suc, _+_, _-_, _≤_, _<_}
 use native.Mathlib.Nat.{add-zero}
 use native.Mathlib.Omega.{arith}
-use mathlib.Core.Bool.{true, false, Bool-discrete}
 use mathlib.Core.List.{List, [], _∷_, _++_, map, append-nil}
-use lib.ListN.{length, take, drop, length-append, length-drop}
+use lib.ListN.{length}
 use Rattle.exact.specs.Got.{Got, got, stop, follow}
-use Rattle.exact.specs.Exact.{Parser}
-use Rattle.exact.specs.Basic.{byte, pure}
+use Rattle.exact.specs.Basic.{pure}
 use Rattle.exact.specs.Sequence as sequence
-use Rattle.exact.specs.Choice.{choose}
 use Rattle.exact.specs.Repeat.{times, counted}
-use Rattle.exact.specs.Fixed.{raw}
-use Rattle.exact.specs.Refuse.{refuse}
-use Rattle.exact.specs.Upto.{upto, place}
+use Rattle.exact.specs.Upto.{upto}
 use Rattle.exact.specs.Tiling.{join}
-use Rattle.exact.proofs.LawsSequence.{bind-got, bind-stop}
-use Rattle.exact.proofs.LawsChoice.{choose-yes, choose-no}
-use Rattle.enums.specs.Container.{hintsFlag}
-use Rattle.enums.specs.Refusals as refusals
 use Rattle.enums.specs.declared.VersionClass.{VersionClass}
-use Rattle.encoding.proofs.LawsVarint.{digits-some}
 use Rattle.encoding.specs.Out.{put}
 use Rattle.sheet.specs.Store.{putWord, putWords, putRuns}
 use Rattle.sheet.proofs.LawsStore.{putWords-append}
-use Rattle.reading.specs.Numbers.{varintAt, placed}
-use Rattle.reading.proofs.LawsPlaced.{placed-got, placed-stop}
+use Rattle.reading.specs.Numbers.{varintAt}
 use Rattle.format.specs.Tables.{Global, Function}
-use Rattle.format.specs.Items.{truth, since13·3}
-use Rattle.format.specs.Globals.{GlobalRow, global}
-use Rattle.format.specs.Functions.{Located, apart, FunctionRow, function}
-use Rattle.format.specs.DecodeTables.{fieldAt}
-use Rattle.format.specs.DecodeRows.{globalAt, globalsAt, bodyAt, functionAt, functionsAt}
+use Rattle.format.specs.Functions.{Located, apart}
+use Rattle.format.specs.DecodeRows.{globalAt, globalsAt, functionAt, functionsAt}
 use Rattle.format.specs.Sheet.{globalWords, functionRowOf, functionWords}
-use Rattle.format.proofs.LawsRows.{global-exact, function-exact}
+use Rattle.entries.specs.declared.rows.FuncRow.{FuncRow}
+use Rattle.entries.specs.Rows.{bytesIn, locatedIn}
+use Rattle.entries.proofs.LawsRows.{function-in}
 use Rattle.payloads.specs.Fill.{Rows, Fills}
 use Rattle.payloads.specs.declared.answers.Filled.{Filled}
 use Rattle.payloads.specs.declared.answers.TableRead.{TableRead}
-use Rattle.payloads.specs.declared.rows.FuncRow.{FuncRow}
-use Rattle.payloads.specs.Rows.{linkageAt, globalRows, rowOf, bytesIn, locatedIn, bodied, locatedRows, functionRows}
-use Rattle.payloads.proofs.LawsFilling.{Filling, filling-more, filling-fills, fills-upto}
+use Rattle.payloads.specs.Rows.{globalRows, rowOf, bodied, locatedRows, functionRows}
+use Rattle.payloads.proofs.LawsFields.{times-length}
+use Rattle.payloads.proofs.LawsFilling.{times-more, Filling, filling-more, filling-fills, fills-upto}
 
 -- The words and runs of a row.
 abbrev pub noRuns : Global → List (List ℕ)
@@ -85,7 +72,7 @@ pub globals-more : (c : VersionClass) (m : ℕ) (l : List ℕ) (i w b : ℕ) (s 
     Filling globalWords noRuns m (times n (globalAt c) l i) w b s s' p p r
 unfolding putRuns globalWords
 globals-more c m l i w b s s' p n v j s₁ r h a e x =
-    filling-more globalWords noRuns (globalAt c) m l i w b s s' p p n v j s₁ p r h a e refl
+    filling-more globalWords noRuns m w b s s' p p v s₁ p r _ _ (times-more (globalAt c) l i n v j h a) e refl
     (subst (λ z. Filling globalWords noRuns m (times (n - 1) (globalAt c) l j) (w + 6) z s₁ s' p p r) (sym (add-zero b)) x)
 
 -- One function more.
@@ -99,7 +86,7 @@ module _ (m : ℕ) (l : List ℕ) (i w b : ℕ) (s s' p p' : List ℕ) (n : ℕ)
       let q = function-in l i (locatedIn 0 l f k) k g a in
       let z : length (bytesIn l f k) ≡ k - f .body = omega (arith, q .1) in
       let y : k - f .body ≡ length ((bytesIn l f k) ++ []) = sym z ∙ ap length (sym (append-nil (bytesIn l f k))) in
-      filling-more funcWords funcRuns (functionAt 0) m l i w b s s' p p' n (locatedIn 0 l f k) k s₁ p₁ r h a
+      filling-more funcWords funcRuns m w b s s' p p' (locatedIn 0 l f k) s₁ p₁ r _ _ (times-more (functionAt 0) l i n _ k h a)
       (e ∙ ap (λ t. putWords s w (functionWords (rowOf (f .head) t))) (sym z)) d
       (subst (λ t. Filling funcWords funcRuns m (times (n - 1) (functionAt 0) l k) (w + 5) (b + t) s₁ s' p₁ p' r) y x)
 
@@ -109,16 +96,16 @@ pub globals-filled : (c : VersionClass) (n : ℕ) (l : List ℕ) (i : ℕ) (at :
     Fills at (globalRows (times n (globalAt c) l i)) s s' p p' r
 unfolding globalRows
 globals-filled c n l i at s s' p p' r x =
-    filling-fills globalWords noRuns (global-exact c) (λ vs. record { rows = length vs; words = join (map globalWords vs); runs = [] })
-    global-rows n l i at s s' p p' r (times n (globalAt c) l i) refl x
+    filling-fills globalWords noRuns (λ vs. record { rows = length vs; words = join (map globalWords vs); runs = [] }) global-rows n
+    at s s' p p' r (times n (globalAt c) l i) (times-length n (globalAt c) l i) x
 
 pub funcs-filled : (n : ℕ) (l : List ℕ) (i : ℕ) (at : Filled) (s s' p p' : List ℕ) (r : TableRead) →
     Filling funcWords funcRuns n (times n (functionAt 0) l i) (at .words) (at .bytes) s s' p p' r →
     Fills at (locatedRows (times n (functionAt 0) l i)) s s' p p' r
 unfolding locatedRows
 funcs-filled n l i at s s' p p' r x =
-    filling-fills funcWords funcRuns (function-exact 0) (λ vs. bodied (apart vs .values)) func-rows n l i at s s' p p' r
-    (times n (functionAt 0) l i) refl x
+    filling-fills funcWords funcRuns (λ vs. bodied (apart vs .values)) func-rows n at s s' p p' r (times n (functionAt 0) l i)
+    (times-length n (functionAt 0) l i) x
 
 -- Words that are put one by one.
 put-next : (s : List ℕ) (w : ℕ) (ws s' s'' : List ℕ) (v : ℕ) → s' ≡ putWords s w ws → s'' ≡ putWord s' (w + length ws) v →

@@ -1,7 +1,7 @@
 -- A refusal is told from an answer by its number, which is never 0. Assumes nothing.
-use mathlib.Core.Path.{_≡_, refl, sym, ap, _∙_}
+use mathlib.Core.Path.{_≡_, refl, sym, ap}
 use mathlib.Core.Option.{Option, none, some}
-use Prim.Native.Nat.{ℕ, _≤_, _<_}
+use Prim.Native.Nat.{ℕ, _<_}
 use native.Mathlib.Omega.{arith}
 use native.Mathlib.Decide.{decLe}
 use mathlib.Core.List.{List}
@@ -9,26 +9,23 @@ use lib.ListN.{length}
 use Rattle.exact.specs.Choice.{choose}
 use Rattle.enums.specs.Refusals as refusals
 use Rattle.format.specs.Tables.{Tables}
-use Rattle.format.specs.Decode.{mostBytes, decode}
+use Rattle.format.specs.Decode.{mostBytes}
 use Rattle.format.specs.Image.{image}
 use Rattle.format.specs.Judge.{withPool}
-use Rattle.format.specs.Read.{Read, accepted, refused, mapRead}
-use Rattle.format.specs.Refusals.{Listed, not-refused, refused-so}
+use Rattle.format.specs.Read.{Read, accepted, refused}
+use Rattle.format.specs.Refusals.{Listed}
 use Rattle.format.specs.Views.{Span}
 use Rattle.format.specs.Write.{Writing, writes, refuses, mostWords, starts32?, imaged}
-use Rattle.format.specs.Sheet.{sheetOf, poolOf}
-use Rattle.format.proofs.Refused.{refused-some, decode-listed, listed-then, listed-choose, listed-map}
+use Rattle.format.proofs.Refused.{refused-some}
 use Rattle.judge.specs.Judge.{judgedBytes}
 use Rattle.sheet.specs.Store.{wordsIn}
 use Rattle.payloads.specs.declared.Need.{Need}
-use Rattle.payloads.specs.Whole.{needOf}
-use Rattle.decoder.specs.File.{stored}
 use Rattle.writer.specs.Writes.{inRoom}
 use Rattle.writer.specs.Written.{writing}
 use Rattle.writer.specs.declared.Imaged.{Imaged}
 use Rattle.writer.specs.declared.Imaged.the-variants as told
 use Rattle.tikomuci.specs.declared.Answer.{Answer}
-use Rattle.tikomuci.specs.Files.{needed, sizeIn, reading}
+use Rattle.tikomuci.specs.Files.{needed, sizeIn}
 use Rattle.tikomuci.specs.Views.{view, spanIn}
 use Rattle.tikomuci.specs.Sheets.{size}
 
@@ -51,16 +48,6 @@ span-told (refused c n i) h r e z =
     let p : 0 < c = refused-some h refl in
     let q = ap (λ a. a .refusal) e in
     absurd (omega arith)
-
-pub needs-listed : (file : List ℕ) → Listed (mapRead needOf (decode file))
-needs-listed file = listed-map needOf (decode-listed file)
-
-pub reading-listed : (file : List ℕ) (words bytes : ℕ) → Listed (reading file words bytes)
-unfolding reading stored
-reading-listed file words bytes =
-    listed-then (stored words bytes) (decode-listed file)
-    (λ t. listed-choose (decLe (length (sheetOf t)) words)
-    (listed-choose (decLe (length (poolOf t)) bytes) not-refused (refused-so refl)) (refused-so refl))
 
 -- .. and writing: which is an image or has a number, before it is held to the output and after that.
 data Numbered : Writing → Type 0 where

@@ -1,21 +1,14 @@
--- `measure` is a pass on no stores. Assumes nothing.
+-- `measure` measures as the crate below does, and so as promised. Assumes nothing.
 use Rattle.decoder.proofs.LawsFile.{measure-post}
 use borrow.Author.Needs.{needs}
 use Rattle.decoder.proofs.measure.Statement.{statement}
 use Rattle.decoder.proofs.measure.Tie as tie
 
-slice-aggregate-fill : tie.Need-slice-aggregate-fill
-slice-aggregate-fill c = search needs
-
-slice-aggregate-fill-2 : tie.Need-slice-aggregate-fill-2
-slice-aggregate-fill-2 c = search needs
-
-fill-requires : tie.Need-fill-requires
-fill-requires c κs = search needs
+measure-requires : tie.Need-measure-requires
+measure-requires c κs = search needs
 
 returns : tie.Need-returns
-returns c = measure-post _ _ _ _ _ _ (c .before .before .fill .ensures)
+returns c = measure-post _ _ (c .measure .ensures)
 
 pub measure-spec : {M : Type 1} → statement M
-measure-spec =
-    tie.close (tie.spec slice-aggregate-fill slice-aggregate-fill-2 fill-requires returns)
+measure-spec = tie.close (tie.spec measure-requires returns)
