@@ -20,7 +20,7 @@ use Rattle.exact.specs.Padding.{pad, here}
 use Rattle.exact.specs.Upto.{upto}
 use Rattle.exact.specs.Tiling.{cut, endOf}
 use Rattle.exact.specs.Entries.{Rows, raised, cutLeast, entry, entriesOf, from, rows, entries}
-use Rattle.exact.proofs.LawsExact.{stop-not-got, got-value, got-next}
+use Rattle.exact.proofs.LawsExact.{got-value, got-next}
 use Rattle.exact.proofs.LawsChoice.{choose-yes, choose-no}
 use Rattle.exact.proofs.LawsSequence.{follow-inv, follow-follow}
 use Rattle.exact.proofs.LawsFixed.{length-nums}
@@ -34,7 +34,7 @@ use Rattle.reading.proofs.LawsPlaced.{placed-got, times-got}
 use Rattle.reading.proofs.LawsInside.{exact-inside}
 use Rattle.format.specs.Strings.{noRows}
 use Rattle.format.specs.DecodeTables.{shape, paddedAt, offsetTableAt}
-use Rattle.entries.specs.Starts.{behindCount, noStarts, startsAt, arrayAt, numbersIn, gotStarts, Lies, numberOr, bounded, endAt}
+use Rattle.entries.specs.Starts.{behindCount, noStarts, startsAt, arrayAt, numbersIn, gotStarts, Lies, numberOr, endAt}
 use Rattle.entries.specs.declared.starts.Starts.{Starts}
 use Rattle.entries.specs.declared.starts.StartsRead.the-variants as starts
 use Rattle.entries.proofs.LawsStarts.{number-read, number-other, end-got, end-stop}

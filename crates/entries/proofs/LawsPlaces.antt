@@ -8,13 +8,11 @@ use native.Mathlib.Omega.{arith}
 use mathlib.Core.Option.{Option, none, some}
 use mathlib.Core.List.{List, [], _∷_}
 use lib.ListN.{length, take, drop}
-use lib.Seq.{length-slice}
 use Rattle.exact.specs.Got.{Got, got, stop, follow}
 use Rattle.exact.specs.Basic.{pure}
 use Rattle.exact.specs.Sequence as sequence
 use Rattle.exact.specs.Choice.{choose}
 use Rattle.exact.specs.Repeat.{times, counted}
-use Rattle.exact.specs.Fixed.{nums}
 use Rattle.exact.specs.Upto.{upto, whole}
 use Rattle.exact.specs.Entries.{Rows, raised, entriesOf, from, rows}
 use Rattle.exact.proofs.LawsChoice.{choose-yes, choose-no}
@@ -33,7 +31,7 @@ use Rattle.entries.specs.declared.starts.StartsRead.the-variants as star
 use Rattle.entries.specs.declared.rows.FuncRow.{FuncRow}
 use Rattle.entries.specs.declared.places.PlaceRead.{PlaceRead}
 use Rattle.entries.specs.declared.places.PlaceRead.the-variants as place
-use Rattle.entries.proofs.LawsEntries.{offset-stop, offset-got, runOf, ahead, Before, run-first, entriesLeft, left-none, left-bad, left-good}
+use Rattle.entries.proofs.LawsEntries.{offset-stop, offset-got, runOf, ahead, Before, run-first, entriesLeft, left-bad, left-good}
 
 -- No rows, and one row before others.
 abbrev noRows : Rows (List ℕ)

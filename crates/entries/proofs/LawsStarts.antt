@@ -1,20 +1,18 @@
 -- How the code follows the model of an offset table, over the width of a start and the padding before the starts: the
 -- starts, and the bounds of its entries one by one. Assumes nothing.
 use mathlib.Core.Path.{_≡_, refl, sym, ap, _∙_}
-use Prim.Native.Nat.{ℕ, zero, suc, _+_, _*_, _-_, _/_, _≤_, _<_}
+use Prim.Native.Nat.{ℕ, suc, _+_, _*_, _-_, _/_, _≤_, _<_}
 use native.Mathlib.Nat.{div-mul-le-self, lt-div-mul-add, mul-le-mul-right}
 use native.Mathlib.Omega.{arith}
 use native.Mathlib.Decide.{decLe, ℕ-discrete}
 use mathlib.Core.Logic.{_⊎_, inl, inr, ⊎-elim}
-use mathlib.Core.List.{List, [], _∷_}
-use lib.ListN.{length, take, drop}
+use mathlib.Core.List.{List, []}
+use lib.ListN.{length, drop}
 use Rattle.exact.specs.Got.{Got, got, stop, ended, follow}
 use Rattle.exact.specs.Exact.{Parser}
-use Rattle.exact.specs.Sequence.{bind}
-use Rattle.exact.specs.Choice.{choose}
 use Rattle.exact.specs.Repeat.{times}
 use Rattle.exact.specs.Fixed.{fixed, nums}
-use Rattle.exact.proofs.LawsExact.{stop-not-got, got-value, got-next}
+use Rattle.exact.proofs.LawsExact.{stop-not-got, got-value}
 use Rattle.exact.proofs.LawsChoice.{choose-yes, choose-no}
 use Rattle.exact.proofs.LawsSequence.{bind-got, bind-stop}
 use Rattle.exact.proofs.LawsSteps.{times-at, times-end}

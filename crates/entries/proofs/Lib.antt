@@ -3,3 +3,4 @@ pub mod LawsProducer
 pub mod LawsStarts
 pub mod LawsEntries
 pub mod LawsPlaces
+pub mod LawsOnly

@@ -1,7 +1,7 @@
 -- Where a string, a constant or a body stands, over the model that reads its whole table (document 01, "Refusal numbers":
 -- the place the layout gives to the row of that number).
 use mathlib.Core.Path.{_≡_}
-use Prim.Native.Nat.{ℕ, _+_, _<_}
+use Prim.Native.Nat.{ℕ, _+_}
 use native.Mathlib.Decide.{decLt}
 use mathlib.Core.Option.{Option, none, some}
 use mathlib.Core.List.{List, map}

@@ -30,7 +30,7 @@ fn find_entry(payload: &[u8], starts: Starts, width: Width, n: u64) -> PlaceRead
     requires { ⌜ Lies (wide width) (now payload) starts ⌝ }
     ensures { λ r. ⌜ Finds (λ o. entriesIn o (wide width) (now (payload .entry)) starts) (now (payload .entry)) n r ⌝ }
 {
-    let count = starts.count;
+    let rows = starts.count;
     let first = starts.first;
     let data = starts.data;
     let run = &payload[first..data];
@@ -38,7 +38,7 @@ fn find_entry(payload: &[u8], starts: Starts, width: Width, n: u64) -> PlaceRead
     let mut from = first_entry(run, width, size);
     let mut found = PlaceRead::Absent;
     let mut i = 0;
-    while i < count {
+    while i < rows {
         match next_entry(run, width, size, 0, from) {
             EntryRead::Stop(x) => {
                 return PlaceRead::Stop(x);

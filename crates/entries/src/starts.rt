@@ -176,14 +176,7 @@ fn out_of_bounds() -> NumRead
 
 // Where the entry ends that begins at `start`: at the next start, and the last one where the data ends. It has to lie in the
 // data, and to have `least` bytes, or ids, at least.
-fn end_of(
-    starts: &[u8],
-    width: Width,
-    size: u64,
-    least: u64,
-    start: u64,
-    next: usize,
-) -> NumRead
+fn end_of(starts: &[u8], width: Width, size: u64, least: u64, start: u64, next: usize) -> NumRead
     ensures { λ r. ⌜ gotNum r ≡ endAt (wide width) least size start (now (starts .entry)) next ⌝ }
 {
     let end = number_or(starts, next, width, size);
@@ -220,7 +213,14 @@ pub fn next_entry(
 ) -> EntryRead
     ensures { λ r. ⌜ gotEntry r ≡ endAt (wide width) least size (from .start .0) (now (starts .entry)) (from .next) ⌝ }
 {
-    match end_of(starts, width, size as u64, least, from.start.0 as u64, from.next) {
+    match end_of(
+        starts,
+        width,
+        size as u64,
+        least,
+        from.start.0 as u64,
+        from.next,
+    ) {
         NumRead::Stop(x) => EntryRead::Stop(x),
         NumRead::Got(end, next) => EntryRead::Got(EntryCursor {
             start: BytePosition(end as usize),
@@ -244,7 +244,14 @@ pub fn first_list(starts: &[u8], ids: usize) -> ListCursor
 pub fn next_list(starts: &[u8], ids: usize, from: ListCursor) -> ListRead
     ensures { λ r. ⌜ gotList r ≡ endAt 4 0 ids (from .start .0) (now (starts .entry)) (from .next) ⌝ }
 {
-    match end_of(starts, Width::Four, ids as u64, 0, from.start.0 as u64, from.next) {
+    match end_of(
+        starts,
+        Width::Four,
+        ids as u64,
+        0,
+        from.start.0 as u64,
+        from.next,
+    ) {
         NumRead::Stop(x) => ListRead::Stop(x),
         NumRead::Got(end, next) => ListRead::Got(ListCursor {
             start: IdPosition(end as usize),

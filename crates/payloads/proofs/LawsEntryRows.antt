@@ -9,9 +9,8 @@ use lib.ListN.{length, take, drop, length-append}
 use Rattle.exact.specs.Got.{Got, got, stop, follow}
 use Rattle.exact.specs.Exact.{Parser}
 use Rattle.exact.specs.Sequence.{map}
-use Rattle.exact.specs.Entries.{raised, entriesOf}
+use Rattle.exact.specs.Entries.{raised}
 use Rattle.exact.proofs.LawsExact.{stop-not-got, got-value, got-next}
-use Rattle.enums.specs.Refusals as refusals
 use Rattle.reading.specs.declared.Refused.{Refused}
 use Rattle.sheet.specs.Store.{putWords}
 use Rattle.sheet.proofs.LawsStore.{putWords-append}
@@ -72,11 +71,12 @@ module _ {A : Type 0} (f : A → List ℕ) where
 
   module _ (p : Parser A) (x : List ℕ) (w : ℕ) (s s' : List ℕ) where
     -- What the reader of one entry says: a refusal is the entry's ..
-    pub one-refused : (y : Refused) → Row (map f p x 0) w s s' (spot.Stop y) → p x 0 ≡ stop (y .no) (y .at)
+    one-refused : (y : Refused) → Row (map f p x 0) w s s' (spot.Stop y) → p x 0 ≡ stop (y .no) (y .at)
     one-refused y r = go (p x 0) refl
       where
         same : {c d k m : ℕ} → _≡_ {A = Got (List ℕ)} (stop c k) (stop d m) → _≡_ {A = Got A} (stop c k) (stop d m)
         same e = cc
+
         go : (g : Got A) → p x 0 ≡ g → p x 0 ≡ stop (y .no) (y .at)
         go (got v j) e = absurd (stop-not-got (sym (row-refused _ w s s' y r) ∙ map-got f p x 0 v j e))
         go (stop c k) e = e ∙ same (sym (map-stop f p x 0 c k e) ∙ row-refused _ w s s' y r)

@@ -6,7 +6,7 @@ use native.Mathlib.Omega.{arith}
 use native.Mathlib.Decide.{decLe, decLt, ℕ-discrete}
 use mathlib.Core.Option.{Option, none, some}
 use mathlib.Core.List.{List, _∷_}
-use lib.ListN.{length, drop, getD}
+use lib.ListN.{length, getD}
 use Rattle.exact.specs.Got.{Got, got, stop, follow}
 use Rattle.exact.specs.Exact.{Parser}
 use Rattle.exact.specs.Basic.{byte, pure}
@@ -23,12 +23,11 @@ use Rattle.enums.specs.declared.VersionClass.{VersionClass}
 use Rattle.reading.specs.Numbers.{varintAt}
 use Rattle.format.specs.Tables.{Function}
 use Rattle.format.specs.Sections.{Section}
-use Rattle.format.specs.Types.{valuesOf}
 use Rattle.format.specs.Functions.{Located, apart}
 use Rattle.format.specs.Explains.{Container}
 use Rattle.format.specs.Read.{Read, accepted, refused, atStage}
 use Rattle.format.specs.DecodeContainer.{headerAt, sectionsAt, lastWith, placeOf, inSection}
-use Rattle.format.specs.DecodeTables.{offsetTableAt, stringsAt, constantsAt}
+use Rattle.format.specs.DecodeTables.{stringsAt, constantsAt}
 use Rattle.format.specs.DecodeTypes.{typeEntryAt, typesAt}
 use Rattle.format.specs.DecodeRows.{bodyAt, functionAt, functionsAt}
 use Rattle.format.specs.Decode.{mostBytes}

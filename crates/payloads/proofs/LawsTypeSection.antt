@@ -1,5 +1,5 @@
 -- The Type section as a table of rows. Assumes nothing.
-use mathlib.Core.Path.{_≡_, refl, sym, ap, _∙_, subst}
+use mathlib.Core.Path.{_≡_, refl, sym, _∙_, subst}
 use Prim.Native.Nat.{ℕ, _+_, _-_, _*_, _≤_}
 use native.Mathlib.Nat.{add-zero}
 use native.Mathlib.Omega.{arith}
@@ -16,7 +16,7 @@ use Rattle.reading.specs.declared.Refused.{Refused}
 use Rattle.format.specs.Tables.{TypeRow}
 use Rattle.format.specs.Sheet.{typeWords}
 use Rattle.format.specs.DecodeTypes.{typeEntryAt, typesAt}
-use Rattle.sheet.specs.Store.{putWords, putRuns}
+use Rattle.sheet.specs.Store.{putRuns}
 use Rattle.entries.specs.Starts.{startsAt, gotStarts}
 use Rattle.entries.specs.declared.starts.Starts.{Starts}
 use Rattle.entries.specs.declared.starts.StartsRead.the-variants as starts

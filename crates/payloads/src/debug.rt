@@ -237,9 +237,17 @@ pub fn parse_debug_section(payload: &[u8], sheet: &mut [u8], at: Filled) -> Debu
 {
     match parse_array(payload, Reader { pos: 0 }, Width::Four) {
         StartsRead::Stop(x) => DebugRead::Stop(x),
-        StartsRead::Got(lists) => match parse_array(payload, Reader { pos: lists.data }, Width::Eight) {
+        StartsRead::Got(lists) => match parse_array(
+            payload,
+            Reader { pos: lists.data },
+            Width::Eight,
+        ) {
             StartsRead::Stop(x) => DebugRead::Stop(x),
-            StartsRead::Got(ids) => match parse_array(payload, Reader { pos: ids.data }, Width::Four) {
+            StartsRead::Got(ids) => match parse_array(
+                payload,
+                Reader { pos: ids.data },
+                Width::Four,
+            ) {
                 StartsRead::Stop(x) => DebugRead::Stop(x),
                 StartsRead::Got(attributes) => fill_debug(
                     payload,

@@ -1,6 +1,5 @@
 // The Type section: parse_type_section and decode_type_entry of decoder.rs. Each entry becomes a row of the sheet: the
 // number of words that follow, the tag, and the fields in wire order with counts before lists.
-ghost use mathlib.Core.Path.{_≡_};
 ghost use Prim.Native.Nat.{ℕ, _+_, _*_, _^_, _≤_};
 ghost use lib.ListN.{length};
 ghost use mathlib.Core.List.{List, []};

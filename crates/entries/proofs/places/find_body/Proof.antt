@@ -66,9 +66,9 @@ loop-again c =
     let q = function-in _ _ _ _ (l .inv .1) (e 0) in
     let b = bodies-more _ _ _ _ _ _ m e in (
       ⊎-elim
-      (λ w. seek-here _ _ _ _ _ _ (l .inv .0) _ _ _ b (sym (w .0 .taken)) _ (omega (arith, q .1)) _ (w .3))
-      (λ w. seek-past _ _ _ _ _ _ (l .inv .0) _ _ _ b (λ h. w .0 .left (sym h)) _ (w .1))
-      (c .if1 .came),
+          (λ w. seek-here _ _ _ _ _ _ (l .inv .0) _ _ _ b (sym (w .0 .taken)) _ (omega (arith, q .1)) _ (w .3))
+          (λ w. seek-past _ _ _ _ _ _ (l .inv .0) _ _ _ b (λ h. w .0 .left (sym h)) _ (w .1))
+          (c .if1 .came),
       q .2,
       omega arith,
     )

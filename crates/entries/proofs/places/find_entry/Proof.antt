@@ -1,9 +1,9 @@
 -- `find_entry` judges the bounds of all entries, and keeps where the entry asked for stands. Assumes nothing.
-use mathlib.Core.Path.{_≡_, sym, ap, _∙_}
-use Prim.Native.Nat.{ℕ, suc, _+_, _-_, _≤_}
+use mathlib.Core.Path.{_≡_, sym}
+use Prim.Native.Nat.{suc, _+_, _-_, _≤_}
 use native.Mathlib.Omega.{arith}
 use mathlib.Core.Logic.{⊎-elim}
-use lib.ListN.{length, drop, length-drop}
+use lib.ListN.{drop, length-drop}
 use lib.Seq.{length-slice}
 use Rattle.reading.proofs.LawsShown.{told}
 use Rattle.entries.specs.Starts.{wide, gotEntry}
@@ -16,14 +16,14 @@ use Rattle.entries.proofs.places.find_entry.Statement.{statement}
 use Rattle.entries.proofs.places.find_entry.Tie as tie
 
 abbrev Inv-loop : tie.InvT-loop
-Inv-loop payload width n count first «data» run size from₀ found₀ i₀ from found i =
-    Before (wide width) size run (count - i) (from .start .0) (from .next) ×
-    Seeking payload n i (rowsLeft (wide width) payload run «data» (count - i) (from .start .0) (from .next))
-    (λ o. entriesIn o (wide width) payload (record { count = count; first = first; «data» = «data» })) found × (i ≤ count)
+Inv-loop payload width n rows first «data» run size from₀ found₀ i₀ from found i =
+    Before (wide width) size run (rows - i) (from .start .0) (from .next) ×
+    Seeking payload n i (rowsLeft (wide width) payload run «data» (rows - i) (from .start .0) (from .next))
+    (λ o. entriesIn o (wide width) payload (record { count = rows; first = first; «data» = «data» })) found × (i ≤ rows)
 
 abbrev μ-loop : tie.MeasureT-loop
-μ-loop payload width n count first «data» run size from₀ found₀ i₀ from found i =
-    count - i
+μ-loop payload width n rows first «data» run size from₀ found₀ i₀ from found i =
+    rows - i
 
 sub-run : tie.Need-sub-run Inv-loop μ-loop
 sub-run c = search needs
@@ -100,9 +100,9 @@ loop-again c =
     let r = rows-good _ _ _ _ some _ (sym d) _ _ _ _ m (l .inv .0) _ _ e in (
       before-next _ _ _ some _ _ _ _ _ _ m (l .inv .0) f .0,
       ⊎-elim
-      (λ w. seek-here _ _ _ _ _ _ (l .inv .1) _ _ _ r (sym (w .0 .taken)) _ (sym x) _ (w .2))
-      (λ w. seek-past _ _ _ _ _ _ (l .inv .1) _ _ _ r (λ h. w .0 .left (sym h)) _ (w .1))
-      (c .if1 .came),
+          (λ w. seek-here _ _ _ _ _ _ (l .inv .1) _ _ _ r (sym (w .0 .taken)) _ (sym x) _ (w .2))
+          (λ w. seek-past _ _ _ _ _ _ (l .inv .1) _ _ _ r (λ h. w .0 .left (sym h)) _ (w .1))
+          (c .if1 .came),
       omega arith,
     )
 

@@ -1,6 +1,6 @@
 -- `put_ids` puts the ids one by one: what the rest puts, all of them put. Assumes nothing.
 use mathlib.Core.Path.{_≡_, refl, sym, ap, _∙_}
-use Prim.Native.Nat.{_+_, _-_, _≤_}
+use Prim.Native.Nat.{_+_, _-_}
 use native.Mathlib.Omega.{arith}
 use lib.ListN.{length, drop}
 use Rattle.exact.specs.Fixed.{nums}

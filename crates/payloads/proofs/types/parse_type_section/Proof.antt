@@ -1,6 +1,5 @@
 -- `parse_type_section` reads the starts and then the entries. Assumes nothing.
 use mathlib.Core.Path.{sym}
-use native.Mathlib.Omega.{arith}
 use Rattle.reading.proofs.LawsShown.{told}
 use Rattle.entries.specs.Starts.{gotStarts}
 use Rattle.entries.proofs.LawsEntries.{starts-lie}
