@@ -6,15 +6,18 @@ use native.Mathlib.Omega.{arith}
 use native.Mathlib.Decide.{decLt}
 use mathlib.Core.Bool.{true, false, true≢false}
 use mathlib.Core.Option.{Option, none, some, Option·none-ne-some, Option·some-injective}
-use mathlib.Core.List.{List, []}
+use mathlib.Core.List.{List}
 use lib.ListN.{length, take, drop, getD}
-use Rattle.exact.specs.Got.{got}
+use Rattle.exact.specs.Got.{got, follow}
 use Rattle.exact.specs.Exact.{Parser}
+use Rattle.exact.specs.Basic.{pure}
+use Rattle.exact.specs.Sequence.{bind, mapped}
 use Rattle.exact.specs.Choice.{choose}
 use Rattle.exact.specs.Entries.{Rows}
-use Rattle.exact.proofs.LawsExact.{got-value}
+use Rattle.exact.proofs.LawsExact.{stop-not-got, got-value}
 use Rattle.exact.proofs.LawsChoice.{choose-no}
 use Rattle.exact.proofs.LawsEntries.{raised-inv}
+use Rattle.reading.specs.declared.Refused.{Refused}
 use Rattle.enums.specs.Container.{stringId, constantId, funcId, numSections}
 use Rattle.format.specs.Sections.{Section, Last}
 use Rattle.format.specs.Strings.{noRows}
@@ -40,28 +43,30 @@ use Rattle.container.specs.Views.{viewOf}
 use Rattle.container.proofs.LawsPlaces.{held-at, placeIn}
 use Rattle.container.proofs.LawsOpened.{container-opened}
 use Rattle.container.proofs.LawsViews.{view-only}
-use Rattle.payloads.specs.declared.places.EntryPlace.{EntryPlace}
-use Rattle.payloads.specs.declared.places.EntryPlace.the-variants as entry
-use Rattle.payloads.specs.Rows.{bodiesOf}
-use Rattle.payloads.specs.Tables as table
+use Rattle.entries.specs.declared.places.PlaceRead.{PlaceRead}
+use Rattle.entries.specs.declared.places.PlaceRead.the-variants as place
+use Rattle.entries.specs.Places.{spanIn, rowIn, gotPlace, Finds, bodiesOf, bodiesAt}
 use Rattle.payloads.specs.declared.Need.{Need}
 use Rattle.payloads.specs.Whole.{needOf}
 use Rattle.decoder.specs.declared.views.RowKind.{RowKind}
 use Rattle.decoder.specs.declared.views.RowKind.the-variants as kind
-use Rattle.decoder.specs.Views.{rowsOf, idOf, FindsRow, Accepted, notThere, RowPost}
+use Rattle.decoder.specs.Views.{rowsOf, idOf, rowsAt, Accepted, notThere, RowPost}
+
+-- An answer about the payload l: row n of its rows v, if they are accepted.
+abbrev Answers : ℕ → List ℕ → PlaceRead → Rows (List ℕ) → ℕ → Type 0
+Answers o l r v n = (j : ℕ) × (gotPlace o l r ≡ got (spanIn v n) j)
 
 -- The rows of a kind that the section o gives, if it is there: they are those that are found in its payload.
 record RowsIn (k : RowKind) (o : Option Section) (v : Rows (List ℕ)) : Type 0 where
   absent : o ≡ none → length (v .values) ≡ 0
-  present : (s : Section) → o ≡ some s → (n : ℕ) (r : EntryPlace) → FindsRow k (s .payload) n r →
-      table.placeOf (s .start) r ≡ table.entryIn v n
+  present : (s : Section) → o ≡ some s → (n : ℕ) (r : PlaceRead) → Finds (λ o. rowsAt k o (s .payload) 0) (s .payload) n r →
+      Answers (s .start) (s .payload) r v n
 
 -- They are rows that f makes of what p reads of the section.
 module _ {A : Type 0} (f : A → Rows (List ℕ)) (p : ℕ → Parser A) (e v : A) (k : RowKind) (none-of : length (f e .values) ≡ 0)
-    (finds : (l : List ℕ) (n : ℕ) (r : EntryPlace) → FindsRow k l n r → (o : ℕ) (u : A) (j : ℕ) → p o l 0 ≡ got u j →
-    table.placeOf o r ≡ table.entryIn (f u) n) where
+    (read : (o : ℕ) (l : List ℕ) (u : A) (j : ℕ) → p o l 0 ≡ got u j → rowsAt k o l 0 ≡ got (f u) j) where
   rows-in : (o : Option Section) → (j : ℕ) × (inSection o p e ≡ got v j) → RowsIn k o (f v)
-  unfolding inSection
+  unfolding inSection rowIn follow
   rows-in none (j, h) =
       record {
         absent = λ q. ap (λ u. length (f u .values)) (sym (got-value h)) ∙ none-of;
@@ -72,21 +77,21 @@ module _ {A : Type 0} (f : A → Rows (List ℕ)) (p : ℕ → Parser A) (e v : 
         absent = λ q. absurd (Option·none-ne-some _ (sym q));
         present = λ s q n r g. let (i, w) = raised-inv (t .start) (p (t .start) (t .payload) 0) v j h in
             let m = subst (λ u. p (u .start) (u .payload) 0 ≡ got v i) (Option·some-injective _ _ q) w in
-            finds (s .payload) n r g (s .start) v i m;
+            (i, g .found (s .start) ∙ ap (rowIn n) (read (s .start) (s .payload) v i m));
       }
 
 -- So are the rows of a layout.
 rows-of : (file : List ℕ) (x : Placed) (l : Layout file x) (k : RowKind) →
     RowsIn k (lastWith (idOf k) (l .sections)) (rowsOf k x)
-unfolding FindsRow stringsAt constantsAt
+unfolding bodiesAt mapped bind pure follow
 rows-of file x l kind.String =
-    rows-in (λ v. v) stringsAt noRows _ kind.String refl (λ b n r g. g .found) _
+    rows-in (λ v. v) stringsAt noRows _ kind.String refl (λ o b u j e. e) _
     (section-complete stringId (l .sections) strings-ends noRows _ (l .strings))
 rows-of file x l kind.Constant =
-    rows-in (λ v. v) constantsAt noRows _ kind.Constant refl (λ b n r g. g .found) _
+    rows-in (λ v. v) constantsAt noRows _ kind.Constant refl (λ o b u j e. e) _
     (section-complete constantId (l .sections) constants-ends noRows _ (l .constants))
 rows-of file x l kind.Body =
-    rows-in bodiesOf functionsAt noRows _ kind.Body refl (λ b n r g. g .found) _
+    rows-in bodiesOf functionsAt noRows _ kind.Body refl (λ o b u j e. rw e) _
     (section-complete funcId (l .sections) functions-ends noRows _ (l .functions))
 
 -- The place of a payload that is present is that of the section that counts ..
@@ -108,18 +113,16 @@ counted id ss o s (none-counts m) e = absurd (Option·none-ne-some _ e)
 counted id ss o s (last-counts {s = t} r) e = subst (Last id ss) (Option·some-injective _ _ e) r
 
 -- A place as the answer of a view.
-abbrev spanIn : table.Place → Read Span
-spanIn (table.at start size) = accepted (record { offset = start; size = size })
-spanIn table.nowhere = notThere
+abbrev viewIn : Option Span → Read Span
+viewIn (some s) = accepted s
+viewIn none = notThere
 
--- That of an entry is the model's ..
-span-in : (v : Rows (List ℕ)) (n : ℕ) → spanIn (table.entryIn v n) ≡ rowSpan v n
-unfolding table.entryIn rowSpan choose
-span-in v n = go (decLt n (length (v .values)))
+-- That of a row is the model's ..
+view-in : (v : Rows (List ℕ)) (n : ℕ) → viewIn (spanIn v n) ≡ rowSpan v n
+unfolding spanIn rowSpan choose
+view-in v n = go (decLt n (length (v .values)))
   where
-    go : (d : Dec (n < length (v .values))) →
-        spanIn (choose d (table.at (getD (v .at) n 0) (length (getD (v .values) n []))) table.nowhere) ≡
-        choose d (accepted (spanOf v n)) notThere
+    go : (d : Dec (n < length (v .values))) → viewIn (choose d (some (spanOf v n)) none) ≡ choose d (accepted (spanOf v n)) notThere
     go (yes h) = refl
     go (no h) = refl
 
@@ -209,27 +212,36 @@ module _ {file : List ℕ} {k : RowKind} {p : SectionPlace} (a : Asked file k p)
       let none-there = rows-of file (a .found) (a .layout) k .absent (held-none _ p (a .held) t) in
       answered n ∙ span-none (rowsOf k (a .found)) n none-there
 
-  module _ (t : p .presence ≡ true) (n : ℕ) (r : EntryPlace) (f : FindsRow k (payloadOf file p) n r) where
-    -- Else the answer is the row that is found in it ..
-    found-in : spanIn (table.placeOf (p .start) r) ≡ rowView (rowsOf k) file n
+  module _ (t : p .presence ≡ true) (n : ℕ) (r : PlaceRead)
+      (f : Finds (λ o. rowsAt k o (payloadOf file p) 0) (payloadOf file p) n r) where
+    -- Else the row that is found in it is the answer ..
+    found-in : Answers (p .start) (payloadOf file p) r (rowsOf k (a .found)) n
     found-in =
         let w = there t in
         let s = w .section in
         let q : payloadOf file p ≡ s .payload = payload-of file p s (w .place) (w .stands) in
-        let m : FindsRow k (s .payload) n r = subst (λ l. FindsRow k l n r) q f in
+        let m : Finds (λ o. rowsAt k o (s .payload) 0) (s .payload) n r = subst (λ l. Finds (λ o. rowsAt k o l 0) l n r) q f in
         let e : p .start ≡ s .start = ap (λ z. z .start) (w .place) in
-        ap (λ o. spanIn (table.placeOf o r)) e ∙
-        ap spanIn (rows-of file (a .found) (a .layout) k .present s (w .counts) n r m) ∙
-        span-in (rowsOf k (a .found)) n ∙ sym (answered n)
+        let (j, g) = rows-of file (a .found) (a .layout) k .present s (w .counts) n r m in
+        (j, ap (λ l. gotPlace (p .start) l r) q ∙ ap (λ o. gotPlace o (s .payload) r) e ∙ g)
 
-    -- .. which may not be there ..
-    pub view-absent : r ≡ entry.Absent → rowView (rowsOf k) file n ≡ notThere
-    view-absent e = sym found-in ∙ ap (λ q. spanIn (table.placeOf (p .start) q)) e
+    answer : (o : Option Span) (j : ℕ) → gotPlace (p .start) (payloadOf file p) r ≡ got o j → viewIn o ≡ rowView (rowsOf k) file n
+    answer o j h =
+        let (i, g) = found-in in
+        ap viewIn (got-value (sym h ∙ g)) ∙ view-in (rowsOf k (a .found)) n ∙ sym (answered n)
 
-    module _ (start size : ℕ) (e : r ≡ entry.At start size) where
+    -- .. which is not refused ..
+    pub view-judged : (x : Refused) → r ≡ place.Stop x → ⊥
+    view-judged x e = let (i, g) = found-in in stop-not-got (sym (ap (gotPlace (p .start) (payloadOf file p)) e) ∙ g)
+
+    -- .. may not be there ..
+    pub view-absent : r ≡ place.Absent → rowView (rowsOf k) file n ≡ notThere
+    view-absent e = sym (answer none _ (ap (gotPlace (p .start) (payloadOf file p)) e))
+
+    module _ (start size : ℕ) (e : r ≡ place.At start size) where
       -- .. or has a place.
       pub view-found : accepted (record { offset = p .start + start; size = size }) ≡ rowView (rowsOf k) file n
-      view-found = sym (ap (λ q. spanIn (table.placeOf (p .start) q)) e) ∙ found-in
+      view-found = answer (some (record { offset = p .start + start; size = size })) _ (ap (gotPlace (p .start) (payloadOf file p)) e)
 
       -- It begins in the file.
       pub row-inside : p .start + start ≤ length file

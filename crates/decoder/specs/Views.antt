@@ -3,18 +3,18 @@ use mathlib.Core.Path.{_≡_}
 use Prim.Native.Nat.{ℕ, _≤_, _<_}
 use mathlib.Core.List.{List}
 use lib.ListN.{length}
+use Rattle.exact.specs.Exact.{Parser}
 use Rattle.exact.specs.Entries.{Rows}
 use Rattle.enums.specs.Container.{stringId, constantId, funcId}
 use Rattle.enums.specs.Refusals as refusals
 use Rattle.format.specs.Explains.{Placed, Layout}
 use Rattle.format.specs.Read.{Read, accepted, refused}
+use Rattle.format.specs.DecodeTables.{stringsAt, constantsAt}
 use Rattle.format.specs.Decode.{mostBytes, placed}
 use Rattle.format.specs.Views.{Span, stringsIn, constantsIn, bodiesIn, spanOf, rowView, Viewed}
 use Rattle.container.specs.declared.ViewRead.{ViewRead}
 use Rattle.container.specs.Views.{viewOf}
-use Rattle.payloads.specs.declared.places.EntryPlace.{EntryPlace}
-use Rattle.payloads.specs.Tables.{Finds}
-use Rattle.payloads.specs.Rows.{FindsBody}
+use Rattle.entries.specs.Places.{bodiesAt}
 use Rattle.decoder.specs.declared.views.RowKind.{RowKind}
 use Rattle.decoder.specs.declared.views.RowKind.the-variants as kind
 
@@ -30,11 +30,11 @@ idOf kind.String = stringId
 idOf kind.Constant = constantId
 idOf kind.Body = funcId
 
--- Where the payload l is accepted, the answer is the place of row n in it.
-unfoldable pub FindsRow : RowKind → List ℕ → ℕ → EntryPlace → Type 0
-FindsRow kind.String l n r = Finds 4 4 l n r
-FindsRow kind.Constant l n r = Finds 8 8 l n r
-FindsRow kind.Body l n r = FindsBody l n r
+-- They are read of its payload, which begins at o.
+abbrev pub rowsAt : RowKind → ℕ → Parser (Rows (List ℕ))
+rowsAt kind.String = stringsAt
+rowsAt kind.Constant = constantsAt
+rowsAt kind.Body = bodiesAt
 
 -- The whole file is accepted.
 abbrev pub Accepted : List ℕ → Type 0

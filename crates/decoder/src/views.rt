@@ -5,21 +5,22 @@ ghost use lib.ListN.{getD};
 ghost use Rattle.format.specs.Views.{rowView};
 ghost use Rattle.container.specs.Container.{nowhere, opened, heldContainer};
 ghost use Rattle.container.specs.Views.{viewOf};
-ghost use Rattle.decoder.specs.Views.{idOf, rowsOf, FindsRow, notThere, Accepted, RowPost};
+ghost use Rattle.entries.specs.Places.{Finds};
+ghost use Rattle.decoder.specs.Views.{idOf, rowsOf, rowsAt, notThere, Accepted, RowPost};
 use crate::measure;
 use container::View;
 use container::ViewRead;
 use container::sections;
 use container::sections::SectionPlace;
 use container::sections::Stopped;
+use entries::places::PlaceRead;
+use entries::places::body_place;
+use entries::places::constant_place;
+use entries::places::string_place;
 use enums::Refusal;
 use enums::Section;
 use enums::Stage;
 use payloads::FileRead;
-use payloads::places::EntryPlace;
-use payloads::places::body_place;
-use payloads::places::constant_place;
-use payloads::places::string_place;
 
 // The tables whose rows are runs of bytes.
 pub enum RowKind {
@@ -39,9 +40,9 @@ fn section_of(kind: RowKind) -> u64
     }
 }
 
-// Where a row stands in a payload that is accepted.
-fn place_in(kind: RowKind, payload: &[u8], index: u64) -> EntryPlace
-    ensures { λ r. ⌜ FindsRow kind (now (payload .entry)) index r ⌝ }
+// Where a row stands in its payload.
+fn place_in(kind: RowKind, payload: &[u8], index: u64) -> PlaceRead
+    ensures { λ r. ⌜ Finds (λ o. rowsAt kind o (now (payload .entry)) 0) (now (payload .entry)) index r ⌝ }
 {
     match kind {
         RowKind::String => string_place(payload, index),
@@ -81,9 +82,11 @@ fn accepted_row(file: &[u8], kind: RowKind, index: u64) -> ViewRead
     }
     let start = place.start;
     let end = start + place.len;
+    // A table of a file that is accepted is not refused.
     match place_in(kind, &file[start..end], index) {
-        EntryPlace::Absent => absent(),
-        EntryPlace::At(at, len) => ViewRead::Got(View {
+        PlaceRead::Stop(_) => absent(),
+        PlaceRead::Absent => absent(),
+        PlaceRead::At(at, len) => ViewRead::Got(View {
             start: start + at,
             len,
         }),

@@ -6,7 +6,7 @@ use native.Mathlib.Omega.{arith}
 use native.Mathlib.Decide.{decLe, decLt, ℕ-discrete}
 use mathlib.Core.Option.{Option, none, some}
 use mathlib.Core.List.{List, _∷_}
-use lib.ListN.{length, drop, getD}
+use lib.ListN.{length, getD}
 use Rattle.exact.specs.Got.{Got, got, stop, follow}
 use Rattle.exact.specs.Exact.{Parser}
 use Rattle.exact.specs.Basic.{byte, pure}
@@ -23,12 +23,11 @@ use Rattle.enums.specs.declared.VersionClass.{VersionClass}
 use Rattle.reading.specs.Numbers.{varintAt}
 use Rattle.format.specs.Tables.{Function}
 use Rattle.format.specs.Sections.{Section}
-use Rattle.format.specs.Types.{valuesOf}
 use Rattle.format.specs.Functions.{Located, apart}
 use Rattle.format.specs.Explains.{Container}
 use Rattle.format.specs.Read.{Read, accepted, refused, atStage}
 use Rattle.format.specs.DecodeContainer.{headerAt, sectionsAt, lastWith, placeOf, inSection}
-use Rattle.format.specs.DecodeTables.{offsetTableAt, stringsAt, constantsAt}
+use Rattle.format.specs.DecodeTables.{stringsAt, constantsAt}
 use Rattle.format.specs.DecodeTypes.{typeEntryAt, typesAt}
 use Rattle.format.specs.DecodeRows.{bodyAt, functionAt, functionsAt}
 use Rattle.format.specs.Decode.{mostBytes}
@@ -38,10 +37,11 @@ use Rattle.format.proofs.LawsStands.{stands-bytes}
 use Rattle.format.proofs.RowPlaced.{section-placed}
 use Rattle.container.specs.Container.{heldPlace, nowhere, heldPlaces, Opened, opened}
 use Rattle.container.proofs.LawsPlaces.{placeIn, held-length, held-at, place-past}
-use Rattle.payloads.specs.Tables.{filling, startsAt}
+use Rattle.entries.proofs.LawsEntries.{table-values}
+use Rattle.payloads.specs.Tables.{filling}
 use Rattle.payloads.specs.Rows.{bodied, functionRows}
 use Rattle.payloads.specs.TypeRows.{typeRows}
-use Rattle.payloads.proofs.LawsTables.{offset-starts, filling-moved}
+use Rattle.payloads.proofs.LawsTables.{filling-moved}
 use Rattle.payloads.specs.Pass.{payloadIn, Inside, inPlace}
 
 -- A file that was opened is within the limit, and a container.
@@ -130,28 +130,10 @@ pub constants-moved : (o : ℕ) (l : List ℕ) → filling (constantsAt 0 l 0) �
 unfolding constantsAt
 constants-moved o l = sym (filling-moved 8 8 o l 0)
 
--- Types: the values of an offset table do not depend on where it stands.
-module _ {A : Type 0} (p : Parser A) (w a o : ℕ) (l : List ℕ) where
-  values-cut : (at ats : List ℕ) (g : Got (List A)) →
-      mapped valuesOf (follow g (λ vs j. got (record { at = at; values = vs }) j)) ≡
-      mapped valuesOf (follow g (λ vs j. got (record { at = ats; values = vs }) j))
-  unfolding follow
-  values-cut at ats (got vs j) = refl
-  values-cut at ats (stop c k) = refl
-
-  values-starts : (g : Got (List ℕ)) →
-      mapped valuesOf (follow g (λ ss j. table.rows 0 refusals.bounds 0 p ss l j)) ≡
-      mapped valuesOf (follow g (λ ss j. table.rows o refusals.bounds 0 p ss l j))
-  unfolding follow table.rows
-  values-starts (got ss j) = values-cut _ _ (table.entriesOf refusals.bounds 0 p ss j (length l) (drop j l))
-  values-starts (stop c k) = refl
-
-  values-moved : (i : ℕ) → mapped valuesOf (offsetTableAt w a 0 p l i) ≡ mapped valuesOf (offsetTableAt w a o p l i)
-  values-moved i = rw (offset-starts p w a 0 l i, offset-starts p w a o l i) (values-starts (startsAt w a l i))
-
+-- Types.
 pub types-moved : (c : VersionClass) (o : ℕ) (l : List ℕ) → typeRows (typesAt c 0 l 0) ≡ typeRows (typesAt c o l 0)
 unfolding typesAt sequence.mapped sequence.bind pure
-types-moved c o l = ap typeRows (values-moved (typeEntryAt c) 4 4 o l 0)
+types-moved c o l = ap typeRows (table-values (typeEntryAt c) 4 4 0 l 0 ∙ sym (table-values (typeEntryAt c) 4 4 o l 0))
 
 -- Functions: without the places of their bodies.
 abbrev valued : Got (Located Function) → Got Function

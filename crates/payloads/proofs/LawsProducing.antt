@@ -16,10 +16,10 @@ use Rattle.format.specs.DecodeTables.{producerAt}
 use Rattle.format.proofs.LawsTables.{producer-ends}
 use Rattle.container.specs.declared.sections.SectionPlace.{SectionPlace}
 use Rattle.reading.specs.declared.Refused.{Refused}
-use Rattle.payloads.specs.Tables.{gotProducer}
+use Rattle.entries.specs.Rows.{gotProducer}
+use Rattle.entries.specs.declared.rows.ProducerRead.{ProducerRead}
+use Rattle.entries.specs.declared.rows.ProducerRead.the-variants as producer-read
 use Rattle.payloads.specs.declared.answers.Filled.{Filled}
-use Rattle.payloads.specs.declared.tables.ProducerRead.{ProducerRead}
-use Rattle.payloads.specs.declared.tables.ProducerRead.the-variants as producer-read
 use Rattle.payloads.specs.Pass.{payloadIn, inPlace, Begun, passOf, Small, Goes, valueOf, withProducer}
 use Rattle.payloads.specs.declared.pass.Pass.{Pass}
 use Rattle.payloads.specs.declared.pass.Pass.the-variants as pass

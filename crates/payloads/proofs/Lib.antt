@@ -1,15 +1,13 @@
 pub mod LawsFill
 pub mod LawsTables
-pub mod LawsProducer
 pub mod LawsFilling
 pub mod LawsRows
-pub mod LawsBodies
 pub mod LawsWords
 pub mod LawsFields
 pub mod LawsTypes
 pub mod LawsTypeEntries
+pub mod LawsEntryRows
 pub mod LawsTypeSection
-pub mod LawsTypeTable
 pub mod LawsDebug
 pub mod LawsFilled
 pub mod LawsSizes

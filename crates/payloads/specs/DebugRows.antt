@@ -5,20 +5,20 @@ use Prim.Native.Nat.{ℕ, _+_}
 use mathlib.Core.Option.{Option, none, some}
 use mathlib.Core.List.{List, _++_, map}
 use lib.ListN.{length}
-use Rattle.exact.specs.Got.{Got, got, stop, follow}
-use Rattle.exact.specs.Tiling.{join}
+use Rattle.exact.specs.Got.{Got, got, stop}
+use Rattle.exact.specs.Sequence.{bind}
+use Rattle.exact.specs.Tiling.{join, cuts}
+use Rattle.exact.specs.Entries.{rows}
 use Rattle.enums.specs.Refusals as refusals
-use Rattle.format.specs.Tables.{Attribute}
 use Rattle.format.specs.Debug.{DebugTables}
+use Rattle.format.specs.DecodeDebug.{attributeAt, listsAt}
 use Rattle.format.specs.Sheet.{attributeWords, listWords}
 use Rattle.sheet.specs.Store.{putWords}
+use Rattle.entries.specs.Starts.{numbersIn}
+use Rattle.entries.specs.declared.starts.Starts.{Starts}
 use Rattle.payloads.specs.declared.answers.Filled.{Filled}
 use Rattle.payloads.specs.declared.debug.DebugRead.{DebugRead}
 use Rattle.payloads.specs.declared.debug.DebugRead.the-variants as debug
-
--- The words of attributes that were read.
-unfoldable pub attributeRows : Got (List Attribute) → Got (List ℕ)
-attributeRows g = follow g (λ vs j. got (join (map attributeWords vs)) j)
 
 -- The words of lists, if their bounds are good.
 unfoldable pub listRows : ℕ → Option (List (List ℕ)) → Got (List ℕ)
@@ -28,6 +28,12 @@ listRows j (some ls) = got (join (map listWords ls)) j
 -- The words of the attributes, and then those of the lists.
 unfoldable pub debugWords : DebugTables → List ℕ
 debugWords t = join (map attributeWords (t .attributes)) ++ join (map listWords (t .lists))
+
+-- The attributes that their starts cut, and then the lists that theirs cut out of the ids.
+abbrev pub debugFrom : List ℕ → Starts → Starts → Starts → Got DebugTables
+debugFrom l lists ids attributes =
+    bind (rows 0 refusals.bounds 1 attributeAt (numbersIn 4 l attributes))
+    (λ found. listsAt found (cuts (numbersIn 4 l lists) (numbersIn 8 l ids))) l (attributes .data)
 
 -- How many attributes and lists there are and how far the stores are filled; or a refusal and its place.
 pub data DebugCount : Type 0 where

@@ -6,7 +6,6 @@ use lib.ListN.{length}
 use Rattle.exact.specs.Got.{Got, got, stop}
 use Rattle.exact.specs.Tiling.{join}
 use Rattle.sheet.specs.Store.{putWords, putRuns}
-use Rattle.reading.specs.declared.Refused.{Refused}
 use Rattle.payloads.specs.declared.answers.Filled.{Filled}
 use Rattle.payloads.specs.declared.answers.TableRead.{TableRead}
 use Rattle.payloads.specs.declared.answers.TableRead.the-variants as table

@@ -1,24 +1,24 @@
 -- What the readers of type entries answer and leave in the sheet (document 01, "The sheet": type, the number of words
 -- that follow, tag, fields in wire order with counts before lists).
 use mathlib.Core.Path.{_≡_}
-use Prim.Native.Nat.{ℕ, _+_, _-_, _*_, _^_, _≤_, _<_}
+use Prim.Native.Nat.{ℕ, _+_, _*_, _^_, _≤_, _<_}
 use mathlib.Core.Bool.{true, Bool-discrete}
 use mathlib.Core.List.{List, [], map}
 use lib.ListN.{length, drop}
 use Rattle.exact.specs.Got.{Got, got, stop, follow}
 use Rattle.exact.specs.Exact.{Parser}
 use Rattle.exact.specs.Choice.{choose}
-use Rattle.exact.specs.Repeat.{times}
-use Rattle.exact.specs.Fixed.{fixed, nums}
-use Rattle.exact.specs.Tiling.{join, endOf}
-use Rattle.exact.specs.Entries.{cutLeast, entry, entriesOf}
+use Rattle.exact.specs.Tiling.{join}
+use Rattle.exact.specs.Entries.{entriesOf}
 use Rattle.enums.specs.Refusals as refusals
 use Rattle.enums.specs.declared.VersionClass.{VersionClass}
 use Rattle.enums.specs.Version.{since13·3}
 use Rattle.format.specs.Tables.{TypeRow}
 use Rattle.format.specs.Sheet.{typeWords}
-use Rattle.format.specs.DecodeTypes.{partitionViewAt, oldPartitionViewAt, typeEntryAt}
+use Rattle.format.specs.DecodeTypes.{partitionViewAt, oldPartitionViewAt}
 use Rattle.sheet.specs.Store.{putWords}
+use Rattle.entries.specs.Starts.{numbersIn}
+use Rattle.entries.specs.declared.starts.Starts.{Starts}
 use Rattle.payloads.specs.Fill.{Rows}
 use Rattle.payloads.specs.declared.fields.Spot.{Spot}
 use Rattle.payloads.specs.declared.fields.SpotRead.{SpotRead}
@@ -47,39 +47,14 @@ Short l w (spot.Stop x) = x .at ≤ length l
 abbrev pub partitionAt : VersionClass → Parser TypeRow
 partitionAt c = choose (Bool-discrete (since13·3 c) true) partitionViewAt oldPartitionViewAt
 
--- The words of a row that was read.
-unfoldable pub rowWords : Got TypeRow → Got (List ℕ)
-rowWords g = follow g (λ v j. got (typeWords v) j)
-
 -- The words of rows that were read.
-unfoldable pub rowsWords : Got (List TypeRow) → Got (List ℕ)
-rowsWords g = follow g (λ vs j. got (join (map typeWords vs)) j)
+unfoldable pub wordsOf : {A : Type 0} → (A → List ℕ) → Got (List A) → Got (List ℕ)
+wordsOf f g = follow g (λ vs j. got (join (map f vs)) j)
 
--- The entry from start to end of the data that begins at b (document 01, "The container": its bounds are judged and
--- after them its fields).
-unfoldable pub entryIn : VersionClass → ℕ → ℕ → ℕ → List ℕ → Got TypeRow
-entryIn c b start end l = entry refusals.bounds (typeEntryAt c) (b + start) (cutLeast 0 start end (drop b l))
-
--- Where entry i begins, and the one before it ends.
-unfoldable pub startOf : ℕ → ℕ → ℕ → List ℕ → ℕ
-startOf starts count i l = endOf (drop i (nums count 4 (drop starts l))) (drop (starts + count * 4) l)
-
--- The entries from the i-th on.
-unfoldable pub entriesFrom : VersionClass → ℕ → ℕ → ℕ → List ℕ → Got (List TypeRow)
-entriesFrom c starts count i l =
-    entriesOf refusals.bounds 0 (typeEntryAt c) (drop i (nums count 4 (drop starts l))) (starts + count * 4) (length l)
-    (drop (starts + count * 4) l)
-
--- An entry that was read lies inside the n bytes of the data, and has at most eight words for each byte.
-unfoldable pub Inside : ℕ → ℕ → ℕ → ℕ → SpotRead → Type 0
-Inside start end w n (spot.Got t) = (start ≤ end) × (end ≤ n) × (t .word ≤ w + 8 * (end - start))
-Inside start end w n (spot.Stop x) = Unit
+-- The entries that starts of four bytes cut out of the data behind them, of m bytes at least and each read by p.
+unfoldable pub entriesBy : {A : Type 0} → ℕ → Parser A → List ℕ → Starts → Got (List A)
+entriesBy m p l s = entriesOf refusals.bounds m p (numbersIn 4 l s) (s .data) (length l) (drop (s .data) l)
 
 -- The rows of the Type section that were read: their number and their words; nothing goes to the pool.
 unfoldable pub typeRows : Got (List TypeRow) → Got Rows
 typeRows g = follow g (λ vs j. got (record { rows = length vs; words = join (map typeWords vs); runs = [] }) j)
-
--- n starts and the entries that they cut out of what is left.
-unfoldable pub startsAndEntries : VersionClass → ℕ → List ℕ → ℕ → Got (List TypeRow)
-startsAndEntries c n l i =
-    follow (times n (fixed 4) l i) (λ ss j. entriesOf refusals.bounds 0 (typeEntryAt c) ss j (length l) (drop j l))

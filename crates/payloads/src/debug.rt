@@ -1,37 +1,39 @@
 // The Debug section: parse_debug_section of decoder.rs. All starts and ids are found first, then the attributes are read
 // one by one, and then the lists.
 ghost use mathlib.Core.Path.{_≡_};
-ghost use Prim.Native.Nat.{_+_, _-_, _*_, _^_, _≤_, _<_};
-ghost use lib.ListN.{length, take, drop, replicate};
-ghost use Rattle.exact.specs.Sequence.{bind, mapped};
-ghost use Rattle.exact.specs.Tiling.{endOf, cuts};
-ghost use Rattle.exact.specs.Entries.{rows, entriesOf};
-ghost use Rattle.enums.specs.Refusals as refusals;
+ghost use Prim.Native.Nat.{_+_, _*_, _^_, _≤_, _<_};
+ghost use lib.ListN.{length, drop, replicate};
+ghost use Rattle.exact.specs.Sequence.{mapped};
+ghost use Rattle.exact.specs.Fixed.{nums};
+ghost use Rattle.exact.specs.Tiling.{cuts};
 ghost use Rattle.format.specs.Sheet.{attributeWords};
-ghost use Rattle.format.specs.DecodeTables.{paddedAt};
-ghost use Rattle.format.specs.DecodeDebug.{attributeAt, listsAt, debugAt};
+ghost use Rattle.format.specs.DecodeDebug.{attributeAt, debugAt};
 ghost use Rattle.sheet.specs.Store.{putWords};
+ghost use Rattle.entries.specs.Starts.{Lies, numbersIn};
 ghost use Rattle.payloads.specs.Fill.{Fits};
-ghost use Rattle.payloads.specs.Tables.{Width, Lies, startsIn, Starting};
-ghost use Rattle.payloads.specs.TypeRows.{Row};
-ghost use Rattle.payloads.specs.DebugRows.{attributeRows, listRows, DebugFills};
+ghost use Rattle.payloads.specs.TypeRows.{Row, wordsOf, entriesBy};
+ghost use Rattle.payloads.specs.DebugRows.{listRows, debugFrom, DebugFills};
 use crate::answers::Filled;
 use crate::fields::Number;
 use crate::fields::Spot;
 use crate::fields::SpotRead;
 use crate::fields::copy_numbers;
 use crate::fields::put_value;
-use crate::tables::Starts;
-use crate::tables::StartsRead;
-use crate::tables::place_starts;
-use crate::tables::start_at;
-use enums::BytePosition;
+use entries::starts::EntryRead;
+use entries::starts::ListRead;
+use entries::starts::Starts;
+use entries::starts::StartsRead;
+use entries::starts::Width;
+use entries::starts::first_entry;
+use entries::starts::first_list;
+use entries::starts::next_entry;
+use entries::starts::next_list;
+use entries::starts::number_or;
+use entries::starts::parse_array;
 use enums::DebugTag;
 use enums::IdPosition;
 use enums::Refusal;
 use reading::ByteRead;
-use reading::NumRead;
-use reading::PaddingRead;
 use reading::Reader;
 use reading::Refused;
 
@@ -39,30 +41,6 @@ use reading::Refused;
 pub enum DebugRead {
     Got(usize, usize, Filled),
     Stop(Refused),
-}
-
-// A count, padding, and as many numbers of `width` bytes. Behind a count of 0 there is still padding.
-fn parse_array(payload: &[u8], reader: Reader, width: usize, padding: u64) -> StartsRead
-    requires { ⌜ Width width ⌝ }
-    ensures { λ r. ⌜ Starting (now (payload .entry)) (paddedAt width padding (now (payload .entry)) (reader .pos)) r ⌝ }
-{
-    match reader.read_varint(payload) {
-        NumRead::Stop(x) => StartsRead::Stop(x),
-        NumRead::Got(count, next) => match next.skip_padding(payload, padding) {
-            PaddingRead::Stop(x) => StartsRead::Stop(x),
-            PaddingRead::Got(table) => {
-                if count == 0 {
-                    return StartsRead::Got(Starts {
-                        count: 0,
-                        width,
-                        first: table.pos,
-                        data: table.pos,
-                    });
-                }
-                place_starts(payload, table, count, width)
-            }
-        },
-    }
 }
 
 // Words 0 for the fields that an attribute does not have.
@@ -120,86 +98,62 @@ fn parse_attribute(entry: &[u8], sheet: &mut [u8], word: usize) -> SpotRead
     }
 }
 
-// Where attribute i begins; behind the last one, where the data ends.
-fn attribute_start(payload: &[u8], attributes: Starts, i: usize) -> BytePosition
-    requires { ⌜ Lies (now payload) attributes ⌝ }
-    ensures { λ r. ⌜ r .0 ≡ endOf (drop i (startsIn (now (payload .entry)) attributes)) (drop (attributes .data) (now (payload .entry))) ⌝ }
-{
-    BytePosition(start_at(payload, attributes, i) as usize)
-}
-
-// Where list i begins among the ids; behind the last one, the id count.
-fn list_start(payload: &[u8], lists: Starts, ids: Starts, i: usize) -> IdPosition
-    requires { ⌜ Lies (now payload) lists ⌝ }
-    ensures { λ r. ⌜ r .0 ≡ endOf (drop i (startsIn (now (payload .entry)) lists)) (startsIn (now (payload .entry)) ids) ⌝ }
-{
-    if lists.count <= i {
-        return IdPosition(ids.count);
-    }
-    IdPosition(start_at(payload, lists, i) as usize)
-}
-
 // Attribute by attribute: its bounds are judged, and after them its fields are read. None is empty.
-fn fill_attributes(payload: &[u8], attributes: Starts, sheet: &mut [u8], at: Filled) -> SpotRead
-    requires { ⌜ Lies (now payload) attributes ⌝ }
-    requires { ⌜ Fits at (now payload) ⌝ }
-    ensures { λ r. ⌜ Row (attributeRows (entriesOf refusals.bounds 1 attributeAt (startsIn (now (payload .entry)) attributes) (attributes .data) (length (now (payload .entry))) (drop (attributes .data) (now (payload .entry))))) (at .words) (now (sheet .entry)) (now (sheet .exit)) r ⌝ }
+fn fill_attributes(payload: &[u8], attributes: Starts, sheet: &mut [u8], word: usize) -> SpotRead
+    requires { ⌜ Lies 4 (now payload) attributes ⌝ }
+    requires { ⌜ word + 8 * length (now payload) ≤ 2 ^ 60 ⌝ }
+    ensures { λ r. ⌜ Row (wordsOf attributeWords (entriesBy 1 attributeAt (now (payload .entry)) attributes)) word (now (sheet .entry)) (now (sheet .exit)) r ⌝ }
 {
-    let size = payload.len() - attributes.data;
-    let mut word = at.words;
-    let mut start = attribute_start(payload, attributes, 0);
-    let mut i = 0;
-    while i < attributes.count {
-        let end = attribute_start(payload, attributes, i + 1);
-        if end.0 <= start.0 || size < end.0 {
-            return SpotRead::Stop(Refused {
-                no: Refusal::BOUNDS,
-                at: 0,
-            });
-        }
-        let from = attributes.data + start.0;
-        let to = attributes.data + end.0;
-        match parse_attribute(&payload[from..to], sheet, word) {
-            SpotRead::Stop(x) => {
-                return SpotRead::Stop(Refused {
-                    no: x.no,
-                    at: from + x.at,
-                });
+    let first = attributes.first;
+    let base = attributes.data;
+    let run = &payload[first..base];
+    let data = &payload[base..];
+    let mut next = word;
+    let mut from = first_entry(run, Width::Four, data.len());
+    let mut left = attributes.count;
+    while 0 < left {
+        match next_entry(run, Width::Four, data.len(), 1, from) {
+            EntryRead::Stop(x) => {
+                return SpotRead::Stop(x);
             }
-            SpotRead::Got(next) => {
-                word = next.word;
-                start = end;
-                i += 1;
+            EntryRead::Got(behind) => {
+                let start = from.start.0;
+                let end = behind.start.0;
+                match parse_attribute(&data[start..end], sheet, next) {
+                    SpotRead::Stop(x) => {
+                        return SpotRead::Stop(Refused {
+                            no: x.no,
+                            at: base + start + x.at,
+                        });
+                    }
+                    SpotRead::Got(row) => {
+                        next = row.word;
+                        from = behind;
+                        left -= 1;
+                    }
+                }
             }
         }
     }
     SpotRead::Got(Spot {
         pos: payload.len(),
-        word,
+        word: next,
         value: 0,
     })
 }
 
-// The ids of a list, a word for each.
-fn put_ids(
-    payload: &[u8],
-    ids: Starts,
-    sheet: &mut [u8],
-    start: IdPosition,
-    end: IdPosition,
-    at: usize,
-)
-    requires { ⌜ Lies (now payload) ids ⌝ }
-    requires { ⌜ start .0 ≤ end .0 ⌝ }
-    requires { ⌜ end .0 ≤ ids .count ⌝ }
-    requires { ⌜ at + ids .count < 2 ^ 63 ⌝ }
-    ensures { λ _. ⌜ now (sheet .exit) ≡ putWords (now (sheet .entry)) at (drop (start .0) (take (end .0) (startsIn (now (payload .entry)) ids))) ⌝ }
+// The ids of a list, a word for each. They stand in `ids`, eight bytes each.
+fn put_ids(ids: &[u8], sheet: &mut [u8], start: IdPosition, end: IdPosition, at: usize)
+    requires { ⌜ end .0 * 8 ≤ length (now ids) ⌝ }
+    requires { ⌜ at + end .0 < 2 ^ 63 ⌝ }
+    ensures { λ _. ⌜ now (sheet .exit) ≡ putWords (now (sheet .entry)) at (drop (start .0) (nums (end .0) 8 (now (ids .entry)))) ⌝ }
 {
     let mut word = at;
     let mut i = start.0;
     let last = end.0;
     while i < last {
-        sheet::put_word(sheet, word, start_at(payload, ids, i));
+        let id = number_or(ids, i * 8, Width::Eight, 0);
+        sheet::put_word(sheet, word, id.value);
         word += 1;
         i += 1;
     }
@@ -207,28 +161,37 @@ fn put_ids(
 
 // List by list: its bounds are judged, and its row is put: how many ids it has, and the ids.
 fn fill_lists(payload: &[u8], lists: Starts, ids: Starts, sheet: &mut [u8], at: Spot) -> SpotRead
-    requires { ⌜ Lies (now payload) lists ⌝ }
-    requires { ⌜ Lies (now payload) ids ⌝ }
+    requires { ⌜ Lies 4 (now payload) lists ⌝ }
+    requires { ⌜ Lies 8 (now payload) ids ⌝ }
     requires { ⌜ at .word + 3 * length (now payload) + 8 ≤ 2 ^ 62 ⌝ }
-    ensures { λ r. ⌜ Row (listRows (at .pos) (cuts (startsIn (now (payload .entry)) lists) (startsIn (now (payload .entry)) ids))) (at .word) (now (sheet .entry)) (now (sheet .exit)) r ⌝ }
+    ensures { λ r. ⌜ Row (listRows (at .pos) (cuts (numbersIn 4 (now (payload .entry)) lists) (numbersIn 8 (now (payload .entry)) ids))) (at .word) (now (sheet .entry)) (now (sheet .exit)) r ⌝ }
 {
+    let first = lists.first;
+    let base = lists.data;
+    let run = &payload[first..base];
+    let count = ids.count;
+    let first_id = ids.first;
+    let last_id = ids.data;
+    let numbers = &payload[first_id..last_id];
     let mut word = at.word;
-    let mut start = list_start(payload, lists, ids, 0);
-    let mut i = 0;
-    while i < lists.count {
-        let end = list_start(payload, lists, ids, i + 1);
-        if end.0 < start.0 || ids.count < end.0 {
-            return SpotRead::Stop(Refused {
-                no: Refusal::BOUNDS,
-                at: 0,
-            });
+    let mut from = first_list(run, count);
+    let mut left = lists.count;
+    while 0 < left {
+        match next_list(run, count, from) {
+            ListRead::Stop(x) => {
+                return SpotRead::Stop(x);
+            }
+            ListRead::Got(behind) => {
+                let start = from.start;
+                let end = behind.start;
+                let size = end.0 - start.0;
+                sheet::put_word(sheet, word, size as u64);
+                put_ids(numbers, sheet, start, end, word + 1);
+                word += size + 1;
+                from = behind;
+                left -= 1;
+            }
         }
-        let count = end.0 - start.0;
-        sheet::put_word(sheet, word, count as u64);
-        put_ids(payload, ids, sheet, start, end, word + 1);
-        word += count + 1;
-        start = end;
-        i += 1;
     }
     SpotRead::Got(Spot {
         pos: at.pos,
@@ -246,13 +209,13 @@ fn fill_debug(
     sheet: &mut [u8],
     at: Filled,
 ) -> DebugRead
-    requires { ⌜ Lies (now payload) lists ⌝ }
-    requires { ⌜ Lies (now payload) ids ⌝ }
-    requires { ⌜ Lies (now payload) attributes ⌝ }
+    requires { ⌜ Lies 4 (now payload) lists ⌝ }
+    requires { ⌜ Lies 8 (now payload) ids ⌝ }
+    requires { ⌜ Lies 4 (now payload) attributes ⌝ }
     requires { ⌜ Fits at (now payload) ⌝ }
-    ensures { λ r. ⌜ DebugFills at (bind (rows 0 refusals.bounds 1 attributeAt (startsIn (now (payload .entry)) attributes)) (λ found. listsAt found (cuts (startsIn (now (payload .entry)) lists) (startsIn (now (payload .entry)) ids))) (now (payload .entry)) (attributes .data)) (now (sheet .entry)) (now (sheet .exit)) r ⌝ }
+    ensures { λ r. ⌜ DebugFills at (debugFrom (now (payload .entry)) lists ids attributes) (now (sheet .entry)) (now (sheet .exit)) r ⌝ }
 {
-    match fill_attributes(payload, attributes, sheet, at) {
+    match fill_attributes(payload, attributes, sheet, at.words) {
         SpotRead::Stop(x) => DebugRead::Stop(x),
         SpotRead::Got(next) => match fill_lists(payload, lists, ids, sheet, next) {
             SpotRead::Stop(x) => DebugRead::Stop(x),
@@ -272,11 +235,19 @@ pub fn parse_debug_section(payload: &[u8], sheet: &mut [u8], at: Filled) -> Debu
     requires { ⌜ Fits at (now payload) ⌝ }
     ensures { λ r. ⌜ DebugFills at (debugAt (now (payload .entry)) 0) (now (sheet .entry)) (now (sheet .exit)) r ⌝ }
 {
-    match parse_array(payload, Reader { pos: 0 }, 4, 4) {
+    match parse_array(payload, Reader { pos: 0 }, Width::Four) {
         StartsRead::Stop(x) => DebugRead::Stop(x),
-        StartsRead::Got(lists) => match parse_array(payload, Reader { pos: lists.data }, 8, 8) {
+        StartsRead::Got(lists) => match parse_array(
+            payload,
+            Reader { pos: lists.data },
+            Width::Eight,
+        ) {
             StartsRead::Stop(x) => DebugRead::Stop(x),
-            StartsRead::Got(ids) => match parse_array(payload, Reader { pos: ids.data }, 4, 4) {
+            StartsRead::Got(ids) => match parse_array(
+                payload,
+                Reader { pos: ids.data },
+                Width::Four,
+            ) {
                 StartsRead::Stop(x) => DebugRead::Stop(x),
                 StartsRead::Got(attributes) => fill_debug(
                     payload,

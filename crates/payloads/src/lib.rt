@@ -1,11 +1,9 @@
-// decoder.rs: the readers of the seven payloads, and the two calls that pass over a file with them: one measures, one
-// fills lent stores. What can be called from outside is what the crate `decoder` stands on: these calls, and the places of
-// rows.
+// decoder.rs: the readers of the payloads that fill stores, and the two calls that pass over a file with them: one
+// measures, one fills lent stores. These two calls are what can be called from outside.
 mod answers;
 mod debug;
 mod fields;
 mod pass;
-pub mod places;
 mod rows;
 mod tables;
 mod types;

@@ -1,7 +1,6 @@
 // The Type section: parse_type_section and decode_type_entry of decoder.rs. Each entry becomes a row of the sheet: the
 // number of words that follow, the tag, and the fields in wire order with counts before lists.
-ghost use mathlib.Core.Path.{_≡_};
-ghost use Prim.Native.Nat.{ℕ, _+_, _-_, _*_, _^_, _≤_};
+ghost use Prim.Native.Nat.{ℕ, _+_, _*_, _^_, _≤_};
 ghost use lib.ListN.{length};
 ghost use mathlib.Core.List.{List, []};
 ghost use Rattle.exact.specs.Sequence.{mapped};
@@ -9,10 +8,9 @@ ghost use Rattle.format.specs.Sheet.{fieldWords, typeWords};
 ghost use Rattle.format.specs.DecodeTypes.{pointerAt, tileAt, tensorViewAt, partitionViewAt, oldPartitionViewAt, gatherScatterViewAt, stridedViewAt, functionTypeAt, fieldsAt, typeEntryAt, typesAt};
 ghost use Rattle.exact.specs.Basic.{byte};
 ghost use Rattle.format.specs.Items.{truth};
-ghost use Rattle.enums.specs.Refusals as refusals;
-ghost use Rattle.payloads.specs.declared.fields.SpotRead.the-variants as spot;
+ghost use Rattle.entries.specs.Starts.{Lies};
 ghost use Rattle.payloads.specs.Fields.{Within, Grows, Copied, unput};
-ghost use Rattle.payloads.specs.TypeRows.{partitionAt, Row, Spare, Short, rowWords, rowsWords, entryIn, startOf, entriesFrom, Inside, typeRows, startsAndEntries};
+ghost use Rattle.payloads.specs.TypeRows.{partitionAt, Row, Spare, Short, wordsOf, entriesBy, typeRows};
 ghost use Rattle.payloads.specs.Fill.{Fits, Fills};
 use crate::answers::Filled;
 use crate::answers::TableRead;
@@ -26,15 +24,20 @@ use crate::fields::copy_list;
 use crate::fields::copy_number;
 use crate::fields::put_value;
 use crate::fields::value_of;
+use entries::starts::EntryRead;
+use entries::starts::Starts;
+use entries::starts::StartsRead;
+use entries::starts::Width;
+use entries::starts::first_entry;
+use entries::starts::next_entry;
+use entries::starts::parse_starts;
 use enums::Refusal;
 use enums::TypeTag;
 use enums::VersionClass;
 use reading::ByteRead;
 use reading::NumRead;
-use reading::PaddingRead;
 use reading::Reader;
 use reading::Refused;
-use reading::U32Read;
 
 // One reader for each kind: the tag, and the fields behind it.
 fn pointer(entry: &[u8], class: VersionClass, sheet: &mut [u8], at: Spot) -> SpotRead
@@ -230,137 +233,54 @@ fn decode_type_entry(entry: &[u8], class: VersionClass, sheet: &mut [u8], word: 
     }
 }
 
-// Where entry i begins in the data, and the entry before it ends: its start, or the data's end behind the last.
-fn start_at(payload: &[u8], starts: usize, count: usize, i: usize) -> usize
-    requires { ⌜ (i ≤ count) × (starts + count * 4 ≤ length (now payload)) ⌝ }
-    ensures { λ r. ⌜ r ≡ startOf starts count i (now (payload .entry)) ⌝ }
-{
-    if i < count {
-        match (Reader {
-            pos: starts + i * 4,
-        }).read_le_u32(payload) {
-            U32Read::Stop(_) => 0,
-            U32Read::Got(start, _) => start as usize,
-        }
-    } else {
-        payload.len() - (starts + count * 4)
-    }
-}
-
-// Bounds that are bad are refused at the payload's first byte.
-fn out_of_bounds() -> SpotRead
-    ensures { λ r. ⌜ r ≡ spot.Stop record { no = refusals.bounds; at = 0 } ⌝ }
-{
-    SpotRead::Stop(Refused {
-        no: Refusal::BOUNDS,
-        at: 0,
-    })
-}
-
-// The entry from start to end of the data that begins at `data`: its bounds are judged before its fields.
-fn bounded_entry(
-    payload: &[u8],
-    class: VersionClass,
-    data: usize,
-    start: usize,
-    end: usize,
-    sheet: &mut [u8],
-    word: usize,
-) -> SpotRead
-    requires { ⌜ («data» ≤ length (now payload)) × (word + 8 * (length (now payload) - («data» + start)) ≤ 2 ^ 61) ⌝ }
-    ensures { λ r. ⌜ Row (rowWords (entryIn «class» «data» start end (now (payload .entry)))) word (now (sheet .entry)) (now (sheet .exit)) r ⌝ }
-    ensures { λ r. ⌜ Inside start end word (length (now (payload .entry)) - «data») r ⌝ }
-{
-    let len = payload.len() - data;
-    if end < start {
-        return out_of_bounds();
-    }
-    if len < end {
-        return out_of_bounds();
-    }
-    let from = data + start;
-    let to = data + end;
-    match decode_type_entry(&payload[from..to], class, sheet, word) {
-        SpotRead::Stop(x) => SpotRead::Stop(Refused {
-            no: x.no,
-            at: from + x.at,
-        }),
-        SpotRead::Got(row) => SpotRead::Got(Spot {
-            pos: from + row.pos,
-            word: row.word,
-            value: row.value,
-        }),
-    }
-}
-
-// All entries: `count` starts stand from `starts` on, and the data behind them.
+// Entry by entry: its bounds are judged before its fields.
 fn decode_type_entries(
     payload: &[u8],
+    starts: Starts,
     class: VersionClass,
-    starts: usize,
-    count: usize,
     sheet: &mut [u8],
     word: usize,
 ) -> SpotRead
-    requires { ⌜ (starts + count * 4 ≤ length (now payload)) × (word + 8 * length (now payload) ≤ 2 ^ 60) ⌝ }
-    ensures { λ r. ⌜ Row (rowsWords (entriesFrom «class» starts count 0 (now (payload .entry)))) word (now (sheet .entry)) (now (sheet .exit)) r ⌝ }
+    requires { ⌜ Lies 4 (now payload) starts ⌝ }
+    requires { ⌜ word + 8 * length (now payload) ≤ 2 ^ 60 ⌝ }
+    ensures { λ r. ⌜ Row (wordsOf typeWords (entriesBy 0 (typeEntryAt «class») (now (payload .entry)) starts)) word (now (sheet .entry)) (now (sheet .exit)) r ⌝ }
 {
-    let data = starts + count * 4;
-    let mut i = 0;
-    let mut start = start_at(payload, starts, count, 0);
+    let first = starts.first;
+    let base = starts.data;
+    let run = &payload[first..base];
+    let data = &payload[base..];
     let mut next = word;
-    while i < count {
-        let end = start_at(payload, starts, count, i + 1);
-        match bounded_entry(payload, class, data, start, end, sheet, next) {
-            SpotRead::Stop(x) => {
+    let mut from = first_entry(run, Width::Four, data.len());
+    let mut left = starts.count;
+    while 0 < left {
+        match next_entry(run, Width::Four, data.len(), 0, from) {
+            EntryRead::Stop(x) => {
                 return SpotRead::Stop(x);
             }
-            SpotRead::Got(row) => {
-                next = row.word;
-                start = end;
-                i += 1;
+            EntryRead::Got(behind) => {
+                let start = from.start.0;
+                let end = behind.start.0;
+                match decode_type_entry(&data[start..end], class, sheet, next) {
+                    SpotRead::Stop(x) => {
+                        return SpotRead::Stop(Refused {
+                            no: x.no,
+                            at: base + start + x.at,
+                        });
+                    }
+                    SpotRead::Got(row) => {
+                        next = row.word;
+                        from = behind;
+                        left -= 1;
+                    }
+                }
             }
         }
     }
     SpotRead::Got(Spot {
         pos: payload.len(),
         word: next,
-        value: count as u64,
+        value: 0,
     })
-}
-
-// The starts and the entries behind the padding. What is left is divided by a start's width, so that a count near 2^64
-// is refused like any other, at the first start that does not fit.
-fn parse_type_rows(
-    payload: &[u8],
-    class: VersionClass,
-    first: Reader,
-    count: u64,
-    sheet: &mut [u8],
-    at: Filled,
-) -> TableRead
-    requires { ⌜ Fits at (now payload) × (first .pos ≤ length (now payload)) ⌝ }
-    ensures { λ r. ⌜ Fills at (typeRows (startsAndEntries «class» count (now (payload .entry)) (first .pos))) (now (sheet .entry)) (now (sheet .exit)) [] [] r ⌝ }
-{
-    let starts = first.pos;
-    let room = first.remaining(payload) / 4;
-    if (room as u64) < count {
-        return TableRead::Stop(Refused {
-            no: Refusal::SHORT,
-            at: starts + room * 4,
-        });
-    }
-    let count = count as usize;
-    match decode_type_entries(payload, class, starts, count, sheet, at.words) {
-        SpotRead::Stop(x) => TableRead::Stop(x),
-        SpotRead::Got(end) => TableRead::Got(
-            count,
-            Filled {
-                words: end.word,
-                bytes: at.bytes,
-            },
-        ),
-    }
 }
 
 // The Type section: its rows are put behind what is filled already.
@@ -373,15 +293,18 @@ pub fn parse_type_section(
     requires { ⌜ Fits at (now payload) ⌝ }
     ensures { λ r. ⌜ Fills at (typeRows (typesAt «class» 0 (now (payload .entry)) 0)) (now (sheet .entry)) (now (sheet .exit)) [] [] r ⌝ }
 {
-    match (Reader { pos: 0 }).read_varint(payload) {
-        NumRead::Stop(x) => TableRead::Stop(x),
-        NumRead::Got(count, next) => {
-            if count == 0 {
-                return TableRead::Got(0, at);
-            }
-            match next.skip_padding(payload, 4) {
-                PaddingRead::Stop(x) => TableRead::Stop(x),
-                PaddingRead::Got(first) => parse_type_rows(payload, class, first, count, sheet, at),
+    match parse_starts(payload, Width::Four) {
+        StartsRead::Stop(x) => TableRead::Stop(x),
+        StartsRead::Got(starts) => {
+            match decode_type_entries(payload, starts, class, sheet, at.words) {
+                SpotRead::Stop(x) => TableRead::Stop(x),
+                SpotRead::Got(end) => TableRead::Got(
+                    starts.count,
+                    Filled {
+                        words: end.word,
+                        bytes: at.bytes,
+                    },
+                ),
             }
         }
     }

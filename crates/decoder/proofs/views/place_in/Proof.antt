@@ -1,6 +1,5 @@
 -- `place_in` asks the finder of its kind of rows. Assumes nothing.
 use borrow.Author.Needs.{needs}
-use Rattle.decoder.specs.Views.{FindsRow}
 use Rattle.decoder.proofs.views.place_in.Statement.{statement}
 use Rattle.decoder.proofs.views.place_in.Tie as tie
 
@@ -23,15 +22,12 @@ body-place-requires : tie.Need-body-place-requires
 body-place-requires c κs = search needs
 
 returns : tie.Need-returns
-unfolding FindsRow
 returns c = rw (c .before .enum-told .given .1) (c .string-place .ensures)
 
 returns-2 : tie.Need-returns-2
-unfolding FindsRow
 returns-2 c = rw (c .before .enum-told2 .given .1) (c .constant-place .ensures)
 
 returns-3 : tie.Need-returns-3
-unfolding FindsRow
 returns-3 c = rw (c .before .enum-told3 .given .1) (c .body-place .ensures)
 
 pub place-in-spec : {M : Type 1} → statement M

@@ -1,166 +1,173 @@
--- `fill_attributes` puts the attributes one by one: whatever the rest leaves, all of them leave it. Assumes nothing.
-use mathlib.Core.Path.{_≡_, refl}
-use Prim.Native.Nat.{ℕ, _+_, _*_, _-_, _^_, _≤_, _<_}
+-- `fill_attributes` reads entry after entry: whatever reading the rest leaves, reading them all leaves it. Assumes nothing.
+use mathlib.Core.Path.{_≡_, refl, _∙_}
+use Prim.Native.Nat.{ℕ, suc, _+_, _-_, _*_, _≤_}
 use native.Mathlib.Omega.{arith}
-use mathlib.Core.Logic.{⊎-elim}
 use mathlib.Core.List.{List}
-use lib.ListN.{length, drop, length-drop}
-use Rattle.exact.specs.Tiling.{endOf}
+use lib.ListN.{length}
+use Rattle.reading.proofs.LawsShown.{told}
+use Rattle.format.specs.DecodeDebug.{attributeAt}
+use Rattle.format.specs.Sheet.{attributeWords}
+use Rattle.entries.specs.Starts.{gotEntry}
+use Rattle.entries.proofs.LawsStarts.{end-got}
+use Rattle.entries.proofs.LawsEntries.{restOf, rest-length, Before, before-next, part-length}
 use Rattle.payloads.specs.declared.fields.SpotRead.{SpotRead}
-use Rattle.payloads.specs.Tables.{startsIn}
 use Rattle.payloads.specs.TypeRows.{Row}
-use Rattle.payloads.proofs.LawsTables.{starts-counted, starts-few, part-behind}
-use Rattle.payloads.proofs.LawsDebug.{
-  attributesOf,
-  attributes-bad,
-  attributes-stop,
-  attributes-more,
-  attributes-done,
-  part-room,
-  part-place,
-  row-stop,
-  seven,
-}
+use Rattle.payloads.proofs.LawsEntryRows.{wordsLeft, words-done, words-bad, words-stop, words-more, words-all, words-as}
+use Rattle.payloads.proofs.LawsTypeEntries.{row-told}
+use Rattle.payloads.proofs.LawsDebug.{attribute-inside, seven}
 use borrow.Author.Needs.{needs}
-use borrow.Author.Tests.{ltb-true, ltb-false}
 use Rattle.payloads.proofs.debug.fill_attributes.Statement.{statement}
 use Rattle.payloads.proofs.debug.fill_attributes.Tie as tie
-use Rattle.payloads.proofs.LawsTypeEntries.{row-told}
 
 abbrev Inv-loop : tie.InvT-loop
-Inv-loop payload attributes sheet₀ size word₀ start₀ i₀ sheet word start i =
+Inv-loop payload sheet₀ word first base run «data» next₀ from₀ left₀ sheet next from left =
     ((sheet' : List ℕ) (r : SpotRead) →
-    Row (attributesOf (attributes .data) (length payload) (drop (attributes .data) payload) (drop i (startsIn payload attributes))) word sheet sheet' r →
-    Row (attributesOf (attributes .data) (length payload) (drop (attributes .data) payload) (startsIn payload attributes)) word₀ sheet₀ sheet' r) ×
-    (length sheet ≡ length sheet₀) × (start .0 ≡ endOf (drop i (startsIn payload attributes)) (drop (attributes .data) payload)) × (i ≤ attributes .count) ×
-    (word ≡ word₀ + 7 * i)
+    Row (wordsLeft attributeWords 4 1 attributeAt run base (length payload) «data» left (from .start .0) (from .next)) next sheet sheet' r →
+    Row (wordsLeft attributeWords 4 1 attributeAt run base (length payload) «data» left₀ (from₀ .start .0) (from₀ .next)) word sheet₀ sheet' r) ×
+    Before 4 (length «data») run left (from .start .0) (from .next) × (length sheet ≡ length sheet₀) ×
+    (next ≤ word + 7 * from .start .0)
 
 abbrev μ-loop : tie.MeasureT-loop
-μ-loop payload attributes sheet₀ size word₀ start₀ i₀ sheet word start i = attributes .count - i
+μ-loop payload sheet₀ word first base run «data» next₀ from₀ left₀ sheet next from left =
+    left
 
-sub-size : tie.Need-sub-size Inv-loop μ-loop
-sub-size c = omega (arith, c .before .before .before .pre .0 .inside)
+sub-run : tie.Need-sub-run Inv-loop μ-loop
+sub-run c = omega (arith, c .before .before .pre .0 .behind, c .before .before .pre .0 .inside)
 
-attribute-start-requires : tie.Need-attribute-start-requires Inv-loop μ-loop
-attribute-start-requires c κs = c .before .before .before .pre .0
+part-run-start : tie.Need-part-run-start Inv-loop μ-loop
+part-run-start c = omega (arith, c .before .before .pre .0 .behind, c .before .before .pre .0 .inside)
+
+part-run-end : tie.Need-part-run-end Inv-loop μ-loop
+part-run-end c = omega (arith, c .before .before .pre .0 .behind, c .before .before .pre .0 .inside)
+
+sub-data : tie.Need-sub-data Inv-loop μ-loop
+sub-data c = omega (arith, c .before .before .before .pre .0 .inside)
+
+part-data-start : tie.Need-part-data-start Inv-loop μ-loop
+part-data-start c = omega (arith, c .before .before .before .pre .0 .inside)
+
+part-data-end : tie.Need-part-data-end Inv-loop μ-loop
+part-data-end c = omega (arith, c .before .before .before .pre .0 .inside)
+
+first-entry-requires : tie.Need-first-entry-requires Inv-loop μ-loop
+first-entry-requires c κs = search needs
 
 loop-holds : tie.Need-loop-holds Inv-loop μ-loop
-loop-holds c = (λ s r x. x, refl, c .attribute-start .ensures, omega arith, omega arith)
+loop-holds c =
+    let s = c .before .before .before .before .before in
+    let (b, a) = words-all attributeWords 1 attributeAt _ _ (s .pre .0) _ _ (c .first-entry .ensures) in
+    (λ t r x. x, b, refl, omega arith)
 
-add-attribute-start : tie.Need-add-attribute-start Inv-loop μ-loop
-add-attribute-start c = omega (arith, c .if1 .taken, starts-few _ _ (c .before .before .before .before .before .before .before .pre .0), c .before .before .before .before .before .before .before .pre .1 .words)
-
-attribute-start-requires-2 : tie.Need-attribute-start-requires-2 Inv-loop μ-loop
-attribute-start-requires-2 c κs = c .before .before .before .before .before .before .before .pre .0
-
-same-length : tie.Need-same-length Inv-loop μ-loop
-same-length c = omega (arith, c .before .before .before .before .before .before .loop .inv .1)
-
-returns : tie.Need-returns Inv-loop μ-loop
-returns c =
-    let s = c .before .before .before .before .before .before .before .before .before .before .before in
-    let a = s .args in
-    let l = c .before .before .before .before .before .before .loop in
-    let e = c .before .before .before .attribute-start2 in
-    let n = length-drop (a .attributes .data) (a .payload .now) in
-    let h : l .i < length (startsIn (a .payload .now) (a .attributes)) = omega (arith, c .before .before .before .before .if1 .taken, starts-counted _ _ (s .pre .0)) in
-    l .inv .0 _ _
-    (row-stop _ _ _ _ _
-    (attributes-bad _ _ _ _ _ h _ _ (l .inv .2) (e .ensures)
-    (λ p q. ⊎-elim (λ t. omega arith) (λ t. omega (arith, ltb-true)) (c .if2 .came))))
-
-add-from : tie.Need-add-from Inv-loop μ-loop
-add-from c = omega (arith, c .before .before .before .before .before .before .before .before .before .before .before .before .before .before .before .pre .0 .inside, c .before .before .before .before .if2 .left, c .before .before .if3 .left, ltb-false, c .before .before .before .before .before .before .before .before .before .before .before .before .before .before .before .pre .1 .words)
-
-add-to : tie.Need-add-to Inv-loop μ-loop
-add-to c = omega (arith, c .before .before .before .before .before .before .before .before .before .before .before .before .before .before .before .before .before .pre .0 .inside, c .before .before .before .before .before .before .if2 .left, c .before .before .before .before .if3 .left, ltb-false, c .before .before .before .before .before .before .before .before .before .before .before .before .before .before .before .before .before .pre .1 .words)
-
-sub-parse-attribute : tie.Need-sub-parse-attribute Inv-loop μ-loop
-sub-parse-attribute c = omega (arith, c .before .before .before .before .before .before .if2 .left)
-
-part-parse-attribute-start : tie.Need-part-parse-attribute-start Inv-loop μ-loop
-part-parse-attribute-start c = omega (arith, c .before .before .before .before .before .before .if2 .left)
-
-part-parse-attribute-end : tie.Need-part-parse-attribute-end Inv-loop μ-loop
-part-parse-attribute-end c = omega (arith, c .before .before .before .before .before .before .before .before .before .before .before .before .before .before .before .before .before .pre .0 .inside, c .before .before .before .before .if3 .left, ltb-false)
-
-parse-attribute-requires : tie.Need-parse-attribute-requires Inv-loop μ-loop
-parse-attribute-requires c κs =
-    let s = c .before .before .before .before .before .before .before .before .before .before .before .before .before .before .before .before .before .before .before in
-    let l = c .before .before .before .before .before .before .before .before .before .before .before .before .before .before .loop in
-    let h : l .word + length (s .args .payload .now) + 8 ≤ 2 ^ 62 =
-    omega (arith, l .inv .4, c .before .before .before .before .before .before .before .before .before .before .before .before .if1 .taken, starts-few _ _ (s .pre .0), s .pre .1 .words) in
-    let e = c .before .before .before .before .before .before .before .before .before .before .before .attribute-start2 in
-    let b = s .args .attributes .data in
-    part-room (l .word) (b + e .result .0 - (b + l .start .0)) (b + l .start .0) (s .args .payload .now) h
+next-entry-requires : tie.Need-next-entry-requires Inv-loop μ-loop
+next-entry-requires c κs = search needs
 
 enum-known-x : tie.Need-enum-known-x Inv-loop μ-loop
 enum-known-x c = search needs
 
-add-t26 : tie.Need-add-t26 Inv-loop μ-loop
-add-t26 c =
-    let s = c .before .before .before .before .before .before .before .before .before .before .before .before .before .before .before .before .before .before .before .before .before .before .before .before .before .before in
-    let l = c .before .before .before .before .before .before .before .before .before .before .before .before .before .before .before .before .before .before .before .before .before .loop in
-    let e = c .before .before .before .before .before .before .before .before .before .before .before .before .before .before .before .before .before .before .attribute-start2 in
-    let b = s .args .attributes .data in
-    let r = row-told _ _ _ _ (c .before .before .x .given .1) (c .before .before .before .before .before .before .parse-attribute .ensures) in
-    let m = part-place (b + e .result .0 - (b + l .start .0)) (b + l .start .0) (s .args .payload .now) _ _ _ _ r in
-    omega (arith, m, s .pre .0 .inside, c .before .before .before .before .before .before .before .before .before .before .before .before .before .before .before .if2 .left, c .before .before .before .before .before .before .before .before .before .before .before .before .before .if3 .left, ltb-false, s .pre .1 .words)
+same-length : tie.Need-same-length Inv-loop μ-loop
+same-length c = omega (arith, c .before .before .before .before .before .loop .inv .2)
+
+returns : tie.Need-returns Inv-loop μ-loop
+returns c =
+    let s = c .before .before .before .before .before .before .before .before .before .before .before in
+    let l = c .before .before .before .before .before .loop in
+    let m : l .left ≡ suc (l .left - 1) = omega (arith, c .before .before .before .before .loop-test .taken) in
+    let e = told gotEntry (c .before .x .given .1) (c .before .before .before .next-entry .ensures) in
+    let (b, a) = words-all attributeWords 1 attributeAt _ _ (s .pre .0) _ _ (c .before .before .before .before .before .before .first-entry .ensures) in
+    words-as _ _ _ _ _ _ a (l .inv .0 _ _ (words-bad attributeWords _ _ _ _ _ _ _ (omega arith) _ _ _ _ m (l .inv .1) _ e _ _ _))
+
+enum-known-behind : tie.Need-enum-known-behind Inv-loop μ-loop
+enum-known-behind c = search needs
+
+sub-parse-attribute : tie.Need-sub-parse-attribute Inv-loop μ-loop
+sub-parse-attribute c =
+    let e = told gotEntry (c .before .behind .given .1) (c .before .before .before .next-entry .ensures) in
+    omega (arith, end-got _ _ _ _ _ _ _ _ e .1)
+
+part-parse-attribute-start : tie.Need-part-parse-attribute-start Inv-loop μ-loop
+part-parse-attribute-start c =
+    let e = told gotEntry (c .before .behind .given .1) (c .before .before .before .next-entry .ensures) in
+    omega (arith, end-got _ _ _ _ _ _ _ _ e .1)
+
+part-parse-attribute-end : tie.Need-part-parse-attribute-end Inv-loop μ-loop
+part-parse-attribute-end c =
+    let e = told gotEntry (c .before .behind .given .1) (c .before .before .before .next-entry .ensures) in
+    end-got _ _ _ _ _ _ _ _ e .2
+
+parse-attribute-requires : tie.Need-parse-attribute-requires Inv-loop μ-loop
+parse-attribute-requires c κs =
+    let s = c .before .before .before .before .before .before .before .before .before .before .before .before .before in
+    let l = c .before .before .before .before .before .before .before .loop .inv in
+    let e = told gotEntry (c .before .before .before .behind .given .1) (c .before .before .before .before .before .next-entry .ensures) in
+    let (f, g, h) = end-got _ _ _ _ _ _ _ _ e in
+    let d = rest-length (s .args .payload .now) (s .args .attributes) in
+    let n = part-length (c .before .before .before .before .before .before .before .loop .from .start .0) (c .before .before .before .behind .given .0 .0 .start .0)
+    (restOf (s .args .payload .now) (s .args .attributes)) (omega arith) h in
+    omega (arith, l .3, g, h, d, n, s .pre .1)
+
+enum-known-x-2 : tie.Need-enum-known-x-2 Inv-loop μ-loop
+enum-known-x-2 c = search needs
+
+add-t35 : tie.Need-add-t35 Inv-loop μ-loop
+add-t35 c =
+    let s = c .before .before .before .before .before .before .before .before .before .before .before .before .before .before .before .before .before .before .before in
+    let e = told gotEntry (c .before .before .before .before .before .before .before .before .before .behind .given .1) (c .before .before .before .before .before .before .before .before .before .before .before .next-entry .ensures) in
+    let (f, g, h) = end-got _ _ _ _ _ _ _ _ e in
+    let d = rest-length (s .args .payload .now) (s .args .attributes) in
+    omega (arith, g, h, d, s .pre .0 .inside)
+
+add-t36 : tie.Need-add-t36 Inv-loop μ-loop
+add-t36 c =
+    let s = c .before .before .before .before .before .before .before .before .before .before .before .before .before .before .before .before .before .before .before .before in
+    let e = told gotEntry (c .before .before .before .before .before .before .before .before .before .before .behind .given .1) (c .before .before .before .before .before .before .before .before .before .before .before .before .next-entry .ensures) in
+    let (f, g, h) = end-got _ _ _ _ _ _ _ _ e in
+    let d = rest-length (s .args .payload .now) (s .args .attributes) in
+    omega (arith, attribute-inside _ _ _ (omega arith) h _ _ _ _ (row-told _ _ _ _ (c .before .before .x2 .given .1) (c .before .before .before .before .before .before .parse-attribute .ensures)), d, s .pre .0 .inside)
 
 same-length-2 : tie.Need-same-length-2 Inv-loop μ-loop
-same-length-2 c = search needs
+same-length-2 c = omega (arith, c .before .before .before .before .before .sheet .given, c .before .before .before .before .before .before .before .before .before .before .before .before .before .before .loop .inv .2)
 
 returns-2 : tie.Need-returns-2 Inv-loop μ-loop
 returns-2 c =
-    let s = c .before .before .before .before .before .before .before .before .before .before .before .before .before .before .before .before .before .before .before .before .before .before .before .before .before .before in
-    let a = s .args in
-    let l = c .before .before .before .before .before .before .before .before .before .before .before .before .before .before .before .before .before .before .before .before .before .loop in
-    let e = c .before .before .before .before .before .before .before .before .before .before .before .before .before .before .before .before .before .before .attribute-start2 in
-    let n = length-drop (a .attributes .data) (a .payload .now) in
-    let h : l .i < length (startsIn (a .payload .now) (a .attributes)) = omega (arith, c .before .before .before .before .before .before .before .before .before .before .before .before .before .before .before .before .before .before .before .if1 .taken, starts-counted _ _ (s .pre .0)) in
-    let p : l .start .0 < e .result .0 = omega (arith, c .before .before .before .before .before .before .before .before .before .before .before .before .before .before .before .if2 .left) in
-    let q : e .result .0 ≤ length (drop (a .attributes .data) (a .payload .now)) = omega (arith, ltb-false, c .before .before .before .before .before .before .before .before .before .before .before .before .before .if3 .left) in
-    let t = part-behind (a .attributes .data) (l .start .0) (e .result .0) (a .payload .now) (omega arith) q in
-    let r = row-told _ _ _ _ (c .before .before .x .given .1) (c .before .before .before .before .before .before .parse-attribute .ensures) in
-    l .inv .0 _ _ (row-stop _ _ _ _ _ (attributes-stop _ _ _ _ _ h _ _ (l .inv .2) (e .ensures) p q _ t _ _ _ _ r))
+    let s = c .before .before .before .before .before .before .before .before .before .before .before .before .before .before .before .before .before .before .before .before in
+    let l = c .before .before .before .before .before .before .before .before .before .before .before .before .before .before .loop in
+    let m : l .left ≡ suc (l .left - 1) = omega (arith, c .before .before .before .before .before .before .before .before .before .before .before .before .before .loop-test .taken) in
+    let e = told gotEntry (c .before .before .before .before .before .before .before .before .before .before .behind .given .1) (c .before .before .before .before .before .before .before .before .before .before .before .before .next-entry .ensures) in
+    let (b, a) = words-all attributeWords 1 attributeAt _ _ (s .pre .0) _ _ (c .before .before .before .before .before .before .before .before .before .before .before .before .before .before .before .first-entry .ensures) in
+    words-as _ _ _ _ _ _ a
+    (l .inv .0 _ _ (words-stop attributeWords _ _ _ _ _ _ _ (omega arith) _ _ _ _ m (l .inv .1) _ _ e _ _ _ _
+    (row-told _ _ _ _ (c .before .before .x2 .given .1) (c .before .before .before .before .before .before .parse-attribute .ensures)) _))
 
-enum-known-next : tie.Need-enum-known-next Inv-loop μ-loop
-enum-known-next c = search needs
+enum-known-row : tie.Need-enum-known-row Inv-loop μ-loop
+enum-known-row c = search needs
 
-add-i : tie.Need-add-i Inv-loop μ-loop
-add-i c = omega (arith, c .before .before .before .before .before .before .before .before .before .before .before .before .before .before .before .before .before .before .if1 .taken, starts-few _ _ (c .before .before .before .before .before .before .before .before .before .before .before .before .before .before .before .before .before .before .before .before .before .before .before .before .before .pre .0), c .before .before .before .before .before .before .before .before .before .before .before .before .before .before .before .before .before .before .before .before .before .before .before .before .before .pre .1 .words)
+sub-left : tie.Need-sub-left Inv-loop μ-loop
+sub-left c = omega (arith, c .before .before .before .before .before .before .before .before .before .before .before .before .loop-test .taken)
 
 loop-less : tie.Need-loop-less Inv-loop μ-loop
-loop-less c = omega (arith, c .before .before .before .before .before .before .before .before .before .before .before .before .before .before .before .before .before .before .if1 .taken)
+loop-less c = omega (arith, c .before .before .before .before .before .before .before .before .before .before .before .before .loop-test .taken)
 
 loop-again : tie.Need-loop-again Inv-loop μ-loop
 loop-again c =
-    let s = c .before .before .before .before .before .before .before .before .before .before .before .before .before .before .before .before .before .before .before .before .before .before .before .before .before in
-    let a = s .args in
-    let l = c .before .before .before .before .before .before .before .before .before .before .before .before .before .before .before .before .before .before .before .before .loop in
-    let e = c .before .before .before .before .before .before .before .before .before .before .before .before .before .before .before .before .before .attribute-start2 in
-    let n = length-drop (a .attributes .data) (a .payload .now) in
-    let h : l .i < length (startsIn (a .payload .now) (a .attributes)) = omega (arith, c .before .before .before .before .before .before .before .before .before .before .before .before .before .before .before .before .before .before .if1 .taken, starts-counted _ _ (s .pre .0)) in
-    let p : l .start .0 < e .result .0 = omega (arith, c .before .before .before .before .before .before .before .before .before .before .before .before .before .before .if2 .left) in
-    let q : e .result .0 ≤ length (drop (a .attributes .data) (a .payload .now)) = omega (arith, ltb-false, c .before .before .before .before .before .before .before .before .before .before .before .before .if3 .left) in
-    let t = part-behind (a .attributes .data) (l .start .0) (e .result .0) (a .payload .now) (omega arith) q in
-    let r = row-told _ _ _ _ (c .before .next .given .1) (c .before .before .before .before .before .parse-attribute .ensures) in (
-      λ u o x. l .inv .0 u o (attributes-more _ _ _ _ _ h _ _ (l .inv .2) (e .ensures) p q _ t _ _ _ _ u o r x),
-      omega (arith, l .inv .1, c .known-told2 .given),
-      e .ensures,
-      omega (arith, c .before .before .before .before .before .before .before .before .before .before .before .before .before .before .before .before .before .before .if1 .taken),
-      omega (arith, l .inv .4, seven _ _ _ _ _ r),
+    let l = c .before .before .before .before .before .before .before .before .before .before .before .before .before .loop in
+    let m : l .left ≡ suc (l .left - 1) = omega (arith, c .before .before .before .before .before .before .before .before .before .before .before .before .loop-test .taken) in
+    let e = told gotEntry (c .before .before .before .before .before .before .before .before .before .behind .given .1) (c .before .before .before .before .before .before .before .before .before .before .before .next-entry .ensures) in
+    let (f, g, h) = end-got _ _ _ _ _ _ _ _ e in
+    let o = row-told _ _ _ _ (c .before .row .given .1) (c .before .before .before .before .before .parse-attribute .ensures) in (
+      λ t r x. l .inv .0 t r (words-more attributeWords _ _ _ _ _ _ _ (omega arith) _ _ _ _ m (l .inv .1) _ _ e _ _ _ _ o t r x),
+      before-next _ _ _ (omega arith) _ _ _ _ _ _ m (l .inv .1) f .0,
+      c .before .before .before .before .sheet .given ∙ l .inv .2,
+      omega (arith, l .inv .3, g, seven _ _ _ _ _ (row-told _ _ _ _ (c .before .row .given .1) (c .before .before .before .before .before .parse-attribute .ensures))),
     )
 
 same-length-3 : tie.Need-same-length-3 Inv-loop μ-loop
-same-length-3 c = omega (arith, c .before .before .loop .inv .1)
+same-length-3 c = omega (arith, c .before .loop .inv .2)
 
 returns-3 : tie.Need-returns-3 Inv-loop μ-loop
 returns-3 c =
     let s = c .before .before .before .before .before .before .before in
-    let l = c .before .before .loop in
-    let h : length (startsIn (s .args .payload .now) (s .args .attributes)) ≤ l .i = omega (arith, c .if1 .left, starts-counted _ _ (s .pre .0)) in
-    l .inv .0 _ _ (attributes-done _ _ _ _ _ _ _ _ _ h refl)
+    let (b, a) = words-all attributeWords 1 attributeAt _ _ (s .pre .0) _ _ (c .before .before .first-entry .ensures) in
+    words-as _ _ _ _ _ _ a (c .before .loop .inv .0 _ _ (words-done attributeWords _ _ _ _ _ _ _ _ _ _ _ _ _ _ (c .loop-test .left) refl))
 
 pub fill-attributes-spec : {M : Type 1} → statement M
 fill-attributes-spec =
@@ -168,25 +175,30 @@ fill-attributes-spec =
     (tie.spec
     Inv-loop
     μ-loop
-    sub-size
-    attribute-start-requires
+    sub-run
+    part-run-start
+    part-run-end
+    sub-data
+    part-data-start
+    part-data-end
+    first-entry-requires
     loop-holds
-    add-attribute-start
-    attribute-start-requires-2
+    next-entry-requires
+    enum-known-x
     same-length
     returns
-    add-from
-    add-to
+    enum-known-behind
     sub-parse-attribute
     part-parse-attribute-start
     part-parse-attribute-end
     parse-attribute-requires
-    enum-known-x
-    add-t26
+    enum-known-x-2
+    add-t35
+    add-t36
     same-length-2
     returns-2
-    enum-known-next
-    add-i
+    enum-known-row
+    sub-left
     loop-less
     loop-again
     same-length-3

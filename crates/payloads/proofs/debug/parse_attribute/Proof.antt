@@ -4,7 +4,8 @@ use native.Mathlib.Omega.{arith}
 use mathlib.Core.List.{[]}
 use Rattle.reading.proofs.LawsShown.{told-byte}
 use Rattle.reading.proofs.LawsInside.{byte-in}
-use Rattle.payloads.proofs.LawsDebug.{count-few, one-short, one-unknown, row-stop, fields-at, put-told, attribute-refused, attribute-word, attribute-row}
+use Rattle.payloads.proofs.LawsDebug.{count-few, one-short, one-unknown, fields-at, put-told, attribute-refused, attribute-word, attribute-row}
+use Rattle.payloads.proofs.LawsEntryRows.{row-stop}
 use borrow.Author.Needs.{needs}
 use Rattle.payloads.proofs.debug.parse_attribute.Statement.{statement}
 use Rattle.payloads.proofs.debug.parse_attribute.Tie as tie

@@ -9,10 +9,11 @@ use Rattle.sheet.proofs.LawsStore.{length-putWords}
 use Rattle.reading.proofs.LawsShown.{told}
 use Rattle.format.specs.DecodeRows.{functionAt}
 use Rattle.payloads.specs.declared.answers.TableRead.{TableRead}
-use Rattle.payloads.proofs.LawsFilling.{Filling, filling-none, filling-stop}
+use Rattle.payloads.proofs.LawsFilling.{times-none, times-stop, Filling, filling-none, filling-stop}
 use Rattle.encoding.proofs.LawsOut.{length-put}
-use Rattle.payloads.specs.Rows.{gotFunction}
-use Rattle.payloads.proofs.LawsRows.{funcWords, funcRuns, funcs-more, funcs-filled, function-in}
+use Rattle.entries.specs.Rows.{gotFunction}
+use Rattle.entries.proofs.LawsRows.{function-in}
+use Rattle.payloads.proofs.LawsRows.{funcWords, funcRuns, funcs-more, funcs-filled}
 use borrow.Author.Needs.{needs}
 use Rattle.payloads.proofs.rows.fill_funcs.Statement.{statement}
 use Rattle.payloads.proofs.rows.fill_funcs.Tie as tie
@@ -48,8 +49,9 @@ returns : tie.Need-returns Inv-loop μ-loop
 returns c =
     funcs-filled _ _ _ _ _ _ _ _ _
     (c .before .before .before .before .before .loop .inv .0 _ _ _
-    (filling-stop funcWords funcRuns _ _ _ _ _ _ _ _ _ _ _ _ (c .before .before .before .before .loop-test .taken)
-    (told (gotFunction 0 _) (c .before .x .given .1) (c .before .before .before .read-func .ensures 0))))
+    (filling-stop funcWords funcRuns _ _ _ _ _ _ _ _ _
+    (times-stop _ _ _ _ _ _ (c .before .before .before .before .loop-test .taken)
+    (told (gotFunction 0 _) (c .before .x .given .1) (c .before .before .before .read-func .ensures 0)))))
 
 enum-known-row : tie.Need-enum-known-row Inv-loop μ-loop
 enum-known-row c = search needs
@@ -123,7 +125,7 @@ same-length-4 c = search needs
 returns-2 : tie.Need-returns-2 Inv-loop μ-loop
 returns-2 c =
     funcs-filled _ _ _ _ _ _ _ _ _
-    (c .before .loop .inv .0 _ _ _ (filling-none funcWords funcRuns _ _ _ _ _ _ _ _ _ _ _ (c .loop-test .left) refl refl))
+    (c .before .loop .inv .0 _ _ _ (filling-none funcWords funcRuns _ _ _ _ _ _ _ _ _ (times-none _ _ _ _ (c .loop-test .left)) refl refl))
 
 pub fill-funcs-spec : {M : Type 1} → statement M
 fill-funcs-spec =

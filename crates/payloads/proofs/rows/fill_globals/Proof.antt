@@ -9,10 +9,11 @@ use Rattle.sheet.proofs.LawsStore.{length-putWords}
 use Rattle.reading.proofs.LawsShown.{told}
 use Rattle.format.specs.DecodeRows.{globalAt}
 use Rattle.payloads.specs.declared.answers.TableRead.{TableRead}
-use Rattle.payloads.proofs.LawsFilling.{Filling, filling-none, filling-stop}
+use Rattle.payloads.proofs.LawsFilling.{times-none, times-stop, Filling, filling-none, filling-stop}
 use Rattle.format.specs.Sheet.{globalWords}
-use Rattle.payloads.specs.Rows.{gotGlobal}
-use Rattle.payloads.proofs.LawsRows.{noRuns, globals-more, globals-filled, global-in}
+use Rattle.entries.specs.Rows.{gotGlobal}
+use Rattle.entries.proofs.LawsRows.{global-in}
+use Rattle.payloads.proofs.LawsRows.{noRuns, globals-more, globals-filled}
 use borrow.Author.Needs.{needs}
 use Rattle.payloads.proofs.rows.fill_globals.Statement.{statement}
 use Rattle.payloads.proofs.rows.fill_globals.Tie as tie
@@ -43,7 +44,8 @@ returns : tie.Need-returns Inv-loop μ-loop
 returns c =
     λ pool. globals-filled _ _ _ _ _ _ _ _ _ _
     (c .before .before .before .before .before .loop .inv .0 _ pool _
-    (filling-stop globalWords noRuns _ _ _ _ _ _ _ _ _ _ _ _ (c .before .before .before .before .loop-test .taken) (told gotGlobal (c .before .x .given .1) (c .before .before .before .read-global .ensures))))
+    (filling-stop globalWords noRuns _ _ _ _ _ _ _ _ _
+    (times-stop _ _ _ _ _ _ (c .before .before .before .before .loop-test .taken) (told gotGlobal (c .before .x .given .1) (c .before .before .before .read-global .ensures)))))
 
 enum-known-row : tie.Need-enum-known-row Inv-loop μ-loop
 enum-known-row c = search needs
@@ -78,7 +80,7 @@ same-length-2 c = search needs
 returns-2 : tie.Need-returns-2 Inv-loop μ-loop
 returns-2 c =
     λ pool. globals-filled _ _ _ _ _ _ _ _ _ _
-    (c .before .loop .inv .0 _ pool _ (filling-none globalWords noRuns _ _ _ _ _ _ _ _ _ _ _ (c .loop-test .left) refl refl))
+    (c .before .loop .inv .0 _ pool _ (filling-none globalWords noRuns _ _ _ _ _ _ _ _ _ (times-none _ _ _ _ (c .loop-test .left)) refl refl))
 
 pub fill-globals-spec : {M : Type 1} → statement M
 fill-globals-spec =

@@ -1,10 +1,11 @@
 -- `parse_offset_table` reads the starts and then the entries. Assumes nothing.
-use mathlib.Core.Path.{refl}
-use Rattle.exact.specs.Upto.{whole}
+use mathlib.Core.Path.{refl, sym}
 use Rattle.reading.proofs.LawsShown.{told}
-use Rattle.payloads.specs.Tables.{gotStarts}
+use Rattle.entries.specs.Starts.{gotStarts}
+use Rattle.entries.proofs.LawsEntries.{starts-lie}
+use Rattle.entries.proofs.LawsPlaces.{table-stop, table-got}
 use Rattle.payloads.proofs.LawsFill.{fills-stop}
-use Rattle.payloads.proofs.LawsTables.{offset-stop, offset-got, filling-stop}
+use Rattle.payloads.proofs.LawsTables.{filling-stop}
 use borrow.Author.Needs.{needs}
 use Rattle.payloads.proofs.tables.parse_offset_table.Statement.{statement}
 use Rattle.payloads.proofs.tables.parse_offset_table.Tie as tie
@@ -19,12 +20,13 @@ enum-known-starts : tie.Need-enum-known-starts
 enum-known-starts c = search needs
 
 fill-entries-requires : tie.Need-fill-entries-requires
-fill-entries-requires c κs = (c .before .before .before .before .before .parse-starts .ensures .lies _ (c .before .before .before .starts .given .1), c .before .before .before .before .before .before .before .before .before .pre .1)
+fill-entries-requires c κs =
+    (starts-lie _ _ _ _ _ (sym (told (gotStarts _ _) (c .before .before .before .starts .given .1) (c .before .before .before .before .before .parse-starts .ensures))), c .before .before .before .before .before .before .before .before .before .pre)
 
 returns : tie.Need-returns
 returns c =
-    let t = told (gotStarts (c .before .before .before .before .before .before .before .args .payload .now)) (c .before .x .given .1) (c .before .before .before .parse-starts .ensures .answer) in
-    fills-stop _ _ _ (filling-stop _ _ _ (offset-stop _ _ _ _ _ _ _ _ t)) refl
+    let t = told (gotStarts _ _) (c .before .x .given .1) (c .before .before .before .parse-starts .ensures) in
+    fills-stop _ _ _ (filling-stop _ _ _ (table-stop _ _ _ _ t 0)) refl
 
 same-length : tie.Need-same-length
 same-length c = search needs
@@ -34,8 +36,8 @@ same-length-2 c = search needs
 
 returns-2 : tie.Need-returns-2
 returns-2 c =
-    let t = told (gotStarts (c .before .before .before .before .before .before .before .before .before .before .before .before .before .before .args .payload .now)) (c .before .before .before .before .before .before .before .before .starts .given .1) (c .before .before .before .before .before .before .before .before .before .before .parse-starts .ensures .answer) in
-    rw (offset-got whole _ _ 0 _ _ _ _ t) (c .before .before .before .before .fill-entries .ensures)
+    let t = told (gotStarts _ _) (c .before .before .before .before .before .before .before .before .starts .given .1) (c .before .before .before .before .before .before .before .before .before .before .parse-starts .ensures) in
+    rw (table-got _ _ _ t 0) (c .before .before .before .before .fill-entries .ensures)
 
 pub parse-offset-table-spec : {M : Type 1} → statement M
 parse-offset-table-spec =

@@ -1,13 +1,11 @@
 -- `parse_string_section` reads the offset table of String. Assumes nothing.
-use mathlib.Core.Path.{refl}
-use mathlib.Core.Logic.{inl}
 use Rattle.format.specs.DecodeTables.{stringsAt}
 use borrow.Author.Needs.{needs}
 use Rattle.payloads.proofs.tables.parse_string_section.Statement.{statement}
 use Rattle.payloads.proofs.tables.parse_string_section.Tie as tie
 
 parse-offset-table-requires : tie.Need-parse-offset-table-requires
-parse-offset-table-requires c κs = (inl refl, c .before .before .before .before .before .pre)
+parse-offset-table-requires c κs = c .before .before .before .before .before .pre
 
 same-length : tie.Need-same-length
 same-length c = search needs

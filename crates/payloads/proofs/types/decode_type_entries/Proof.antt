@@ -1,93 +1,173 @@
--- `decode_type_entries` reads entry by entry: whatever reading the rest leaves, reading them all leaves it.
--- Assumes nothing.
+-- `decode_type_entries` reads entry after entry: whatever reading the rest leaves, reading them all leaves it. Assumes nothing.
 use mathlib.Core.Path.{_≡_, refl, _∙_}
-use Prim.Native.Nat.{ℕ, _+_, _-_, _*_, _≤_}
+use Prim.Native.Nat.{ℕ, suc, _+_, _-_, _*_, _≤_}
 use native.Mathlib.Omega.{arith}
 use mathlib.Core.List.{List}
 use lib.ListN.{length}
+use Rattle.reading.proofs.LawsShown.{told}
+use Rattle.format.specs.DecodeTypes.{typeEntryAt}
+use Rattle.format.specs.Sheet.{typeWords}
+use Rattle.entries.specs.Starts.{gotEntry}
+use Rattle.entries.proofs.LawsStarts.{end-got}
+use Rattle.entries.proofs.LawsEntries.{restOf, rest-length, Before, before-next, part-length}
 use Rattle.payloads.specs.declared.fields.SpotRead.{SpotRead}
-use Rattle.payloads.specs.TypeRows.{Row, rowsWords, entriesFrom, startOf}
+use Rattle.payloads.specs.TypeRows.{Row}
+use Rattle.payloads.proofs.LawsEntryRows.{wordsLeft, words-done, words-bad, words-stop, words-more, words-all, words-as}
 use Rattle.payloads.proofs.LawsTypeEntries.{row-told}
-use Rattle.payloads.proofs.LawsTypeSection.{inside-told, inside-at, rows-more, rows-stop, rows-done}
+use Rattle.payloads.proofs.LawsTypeSection.{short-told, short-at, short-word}
 use borrow.Author.Needs.{needs}
 use Rattle.payloads.proofs.types.decode_type_entries.Statement.{statement}
 use Rattle.payloads.proofs.types.decode_type_entries.Tie as tie
 
 abbrev Inv-loop : tie.InvT-loop
-Inv-loop payload class starts count sheet₀ word «data» i₀ start₀ next₀ sheet i start next =
-    ((sheet' : List ℕ) (r : SpotRead) → Row (rowsWords (entriesFrom class starts count i payload)) next sheet sheet' r →
-    Row (rowsWords (entriesFrom class starts count 0 payload)) word sheet₀ sheet' r) ×
-    (start ≡ startOf starts count i payload) × (length sheet ≡ length sheet₀) × (next ≤ word + 8 * start) ×
-    (next ≤ word + 8 * (length payload - (starts + count * 4))) × (i ≤ count)
+Inv-loop payload class sheet₀ word first base run «data» next₀ from₀ left₀ sheet next from left =
+    ((sheet' : List ℕ) (r : SpotRead) →
+    Row (wordsLeft typeWords 4 0 (typeEntryAt class) run base (length payload) «data» left (from .start .0) (from .next)) next sheet sheet' r →
+    Row (wordsLeft typeWords 4 0 (typeEntryAt class) run base (length payload) «data» left₀ (from₀ .start .0) (from₀ .next)) word sheet₀ sheet' r) ×
+    Before 4 (length «data») run left (from .start .0) (from .next) × (length sheet ≡ length sheet₀) ×
+    (next ≤ word + 8 * from .start .0)
 
 abbrev μ-loop : tie.MeasureT-loop
-μ-loop payload class starts count sheet₀ word «data» i₀ start₀ next₀ sheet i start next = count - i
+μ-loop payload class sheet₀ word first base run «data» next₀ from₀ left₀ sheet next from left =
+    left
 
-mul-data : tie.Need-mul-data Inv-loop μ-loop
-mul-data c = search needs
+sub-run : tie.Need-sub-run Inv-loop μ-loop
+sub-run c = omega (arith, c .before .before .pre .0 .behind, c .before .before .pre .0 .inside)
 
-add-data : tie.Need-add-data Inv-loop μ-loop
-add-data c = search needs
+part-run-start : tie.Need-part-run-start Inv-loop μ-loop
+part-run-start c = omega (arith, c .before .before .pre .0 .behind, c .before .before .pre .0 .inside)
 
-start-at-requires : tie.Need-start-at-requires Inv-loop μ-loop
-start-at-requires c κs = search needs
+part-run-end : tie.Need-part-run-end Inv-loop μ-loop
+part-run-end c = omega (arith, c .before .before .pre .0 .behind, c .before .before .pre .0 .inside)
+
+sub-data : tie.Need-sub-data Inv-loop μ-loop
+sub-data c = omega (arith, c .before .before .before .pre .0 .inside)
+
+part-data-start : tie.Need-part-data-start Inv-loop μ-loop
+part-data-start c = omega (arith, c .before .before .before .pre .0 .inside)
+
+part-data-end : tie.Need-part-data-end Inv-loop μ-loop
+part-data-end c = omega (arith, c .before .before .before .pre .0 .inside)
+
+first-entry-requires : tie.Need-first-entry-requires Inv-loop μ-loop
+first-entry-requires c κs = search needs
 
 loop-holds : tie.Need-loop-holds Inv-loop μ-loop
-loop-holds c = (λ s r x. x, c .start-at .ensures, refl, omega arith, omega arith, omega arith)
+loop-holds c =
+    let s = c .before .before .before .before .before in
+    let (b, a) = words-all typeWords 0 (typeEntryAt (s .args .«class»)) _ _ (s .pre .0) _ _ (c .first-entry .ensures) in
+    (λ t r x. x, b, refl, omega arith)
 
-add-start-at : tie.Need-add-start-at Inv-loop μ-loop
-add-start-at c = search needs
-
-start-at-requires-2 : tie.Need-start-at-requires-2 Inv-loop μ-loop
-start-at-requires-2 c κs = search needs
-
-bounded-entry-requires : tie.Need-bounded-entry-requires Inv-loop μ-loop
-bounded-entry-requires c κs =
-    let l = c .before .before .before .loop .inv in
-    let p = c .before .before .before .before .before .before .before .pre in
-    (p .0, omega (arith, l .3, l .4, p .0, p .1))
+next-entry-requires : tie.Need-next-entry-requires Inv-loop μ-loop
+next-entry-requires c κs = search needs
 
 enum-known-x : tie.Need-enum-known-x Inv-loop μ-loop
 enum-known-x c = search needs
 
 same-length : tie.Need-same-length Inv-loop μ-loop
-same-length c = search needs
+same-length c = omega (arith, c .before .before .before .before .before .loop .inv .2)
 
 returns : tie.Need-returns Inv-loop μ-loop
 returns c =
-    let l = c .before .before .before .before .before .before .before .before .before .loop .inv in
-    l .0 _ _ (rows-stop _ _ _ _ _ _ _ _ _ _ _ (c .before .before .before .before .before .before .before .before .loop-test .taken) (l .1) (c .before .before .before .before .before .before .before .start-at2 .ensures) _ (row-told _ _ _ _ (c .before .x .given .1) (c .before .before .before .before .before .bounded-entry .ensures .0)))
+    let s = c .before .before .before .before .before .before .before .before .before .before .before in
+    let l = c .before .before .before .before .before .loop in
+    let m : l .left ≡ suc (l .left - 1) = omega (arith, c .before .before .before .before .loop-test .taken) in
+    let e = told gotEntry (c .before .x .given .1) (c .before .before .before .next-entry .ensures) in
+    let (b, a) = words-all typeWords 0 (typeEntryAt (s .args .«class»)) _ _ (s .pre .0) _ _ (c .before .before .before .before .before .before .first-entry .ensures) in
+    words-as _ _ _ _ _ _ a (l .inv .0 _ _ (words-bad typeWords _ _ _ _ _ _ _ (omega arith) _ _ _ _ m (l .inv .1) _ e _ _ _))
+
+enum-known-behind : tie.Need-enum-known-behind Inv-loop μ-loop
+enum-known-behind c = search needs
+
+sub-decode-type-entry : tie.Need-sub-decode-type-entry Inv-loop μ-loop
+sub-decode-type-entry c =
+    let e = told gotEntry (c .before .behind .given .1) (c .before .before .before .next-entry .ensures) in
+    omega (arith, end-got _ _ _ _ _ _ _ _ e .1)
+
+part-decode-type-entry-start : tie.Need-part-decode-type-entry-start Inv-loop μ-loop
+part-decode-type-entry-start c =
+    let e = told gotEntry (c .before .behind .given .1) (c .before .before .before .next-entry .ensures) in
+    omega (arith, end-got _ _ _ _ _ _ _ _ e .1)
+
+part-decode-type-entry-end : tie.Need-part-decode-type-entry-end Inv-loop μ-loop
+part-decode-type-entry-end c =
+    let e = told gotEntry (c .before .behind .given .1) (c .before .before .before .next-entry .ensures) in
+    end-got _ _ _ _ _ _ _ _ e .2
+
+decode-type-entry-requires : tie.Need-decode-type-entry-requires Inv-loop μ-loop
+decode-type-entry-requires c κs =
+    let s = c .before .before .before .before .before .before .before .before .before .before .before .before .before in
+    let l = c .before .before .before .before .before .before .before .loop .inv in
+    let e = told gotEntry (c .before .before .before .behind .given .1) (c .before .before .before .before .before .next-entry .ensures) in
+    let (f, g, h) = end-got _ _ _ _ _ _ _ _ e in
+    let d = rest-length (s .args .payload .now) (s .args .starts) in
+    let n = part-length (c .before .before .before .before .before .before .before .loop .from .start .0) (c .before .before .before .behind .given .0 .0 .start .0)
+    (restOf (s .args .payload .now) (s .args .starts)) (omega arith) h in
+    omega (arith, l .3, g, h, d, n, s .pre .1)
+
+enum-known-x-2 : tie.Need-enum-known-x-2 Inv-loop μ-loop
+enum-known-x-2 c = search needs
+
+add-t36 : tie.Need-add-t36 Inv-loop μ-loop
+add-t36 c =
+    let s = c .before .before .before .before .before .before .before .before .before .before .before .before .before .before .before .before .before .before .before in
+    let e = told gotEntry (c .before .before .before .before .before .before .before .before .before .behind .given .1) (c .before .before .before .before .before .before .before .before .before .before .before .next-entry .ensures) in
+    let (f, g, h) = end-got _ _ _ _ _ _ _ _ e in
+    let d = rest-length (s .args .payload .now) (s .args .starts) in
+    omega (arith, g, h, d, s .pre .0 .inside)
+
+add-t37 : tie.Need-add-t37 Inv-loop μ-loop
+add-t37 c =
+    let s = c .before .before .before .before .before .before .before .before .before .before .before .before .before .before .before .before .before .before .before .before in
+    let e = told gotEntry (c .before .before .before .before .before .before .before .before .before .before .behind .given .1) (c .before .before .before .before .before .before .before .before .before .before .before .before .next-entry .ensures) in
+    let (f, g, h) = end-got _ _ _ _ _ _ _ _ e in
+    let d = rest-length (s .args .payload .now) (s .args .starts) in
+    omega (arith, short-at _ _ _ _ (omega arith) h _ (short-told _ _ (c .before .before .x2 .given .1) (c .before .before .before .before .before .before .decode-type-entry .ensures .1)), d, s .pre .0 .inside)
+
+same-length-2 : tie.Need-same-length-2 Inv-loop μ-loop
+same-length-2 c = omega (arith, c .before .before .before .before .before .sheet .given, c .before .before .before .before .before .before .before .before .before .before .before .before .before .before .loop .inv .2)
+
+returns-2 : tie.Need-returns-2 Inv-loop μ-loop
+returns-2 c =
+    let s = c .before .before .before .before .before .before .before .before .before .before .before .before .before .before .before .before .before .before .before .before in
+    let l = c .before .before .before .before .before .before .before .before .before .before .before .before .before .before .loop in
+    let m : l .left ≡ suc (l .left - 1) = omega (arith, c .before .before .before .before .before .before .before .before .before .before .before .before .before .loop-test .taken) in
+    let e = told gotEntry (c .before .before .before .before .before .before .before .before .before .before .behind .given .1) (c .before .before .before .before .before .before .before .before .before .before .before .before .next-entry .ensures) in
+    let (b, a) = words-all typeWords 0 (typeEntryAt (s .args .«class»)) _ _ (s .pre .0) _ _ (c .before .before .before .before .before .before .before .before .before .before .before .before .before .before .before .first-entry .ensures) in
+    words-as _ _ _ _ _ _ a
+    (l .inv .0 _ _ (words-stop typeWords _ _ _ _ _ _ _ (omega arith) _ _ _ _ m (l .inv .1) _ _ e _ _ _ _
+    (row-told _ _ _ _ (c .before .before .x2 .given .1) (c .before .before .before .before .before .before .decode-type-entry .ensures .0)) _))
 
 enum-known-row : tie.Need-enum-known-row Inv-loop μ-loop
 enum-known-row c = search needs
 
-add-i : tie.Need-add-i Inv-loop μ-loop
-add-i c = omega (arith, c .before .before .before .before .before .before .before .before .loop-test .taken)
+sub-left : tie.Need-sub-left Inv-loop μ-loop
+sub-left c = omega (arith, c .before .before .before .before .before .before .before .before .before .before .before .before .loop-test .taken)
 
 loop-less : tie.Need-loop-less Inv-loop μ-loop
-loop-less c = search needs
+loop-less c = omega (arith, c .before .before .before .before .before .before .before .before .before .before .before .before .loop-test .taken)
 
 loop-again : tie.Need-loop-again Inv-loop μ-loop
 loop-again c =
-    let l = c .before .before .before .before .before .before .before .before .before .loop .inv in
-    let e = c .before .row .given .1 in
-    let p = c .before .before .before .before .before .bounded-entry .ensures in
-    let m = inside-at _ _ _ _ _ (inside-told _ _ _ _ e (p .1)) in (
-      λ s r x. l .0 s r (rows-more _ _ _ _ _ _ _ _ _ _ _ (c .before .before .before .before .before .before .before .before .loop-test .taken) (l .1) (c .before .before .before .before .before .before .before .start-at2 .ensures) _ _ (row-told _ _ _ _ e (p .0)) x),
-      c .before .before .before .before .before .before .before .start-at2 .ensures,
-      c .before .before .before .before .sheet .given ∙ l .2,
-      omega (arith, l .3, m .0, m .2),
-      omega (arith, l .3, m .0, m .1, m .2),
-      omega (arith, c .before .before .before .before .before .before .before .before .loop-test .taken),
+    let l = c .before .before .before .before .before .before .before .before .before .before .before .before .before .loop in
+    let m : l .left ≡ suc (l .left - 1) = omega (arith, c .before .before .before .before .before .before .before .before .before .before .before .before .loop-test .taken) in
+    let e = told gotEntry (c .before .before .before .before .before .before .before .before .before .behind .given .1) (c .before .before .before .before .before .before .before .before .before .before .before .next-entry .ensures) in
+    let (f, g, h) = end-got _ _ _ _ _ _ _ _ e in
+    let o = row-told _ _ _ _ (c .before .row .given .1) (c .before .before .before .before .before .decode-type-entry .ensures .0) in (
+      λ t r x. l .inv .0 t r (words-more typeWords _ _ _ _ _ _ _ (omega arith) _ _ _ _ m (l .inv .1) _ _ e _ _ _ _ o t r x),
+      before-next _ _ _ (omega arith) _ _ _ _ _ _ m (l .inv .1) f .0,
+      c .before .before .before .before .sheet .given ∙ l .inv .2,
+      omega (arith, l .inv .3, g, short-word _ _ _ _ (omega arith) h _ (short-told _ _ (c .before .row .given .1) (c .before .before .before .before .before .decode-type-entry .ensures .1))),
     )
 
-same-length-2 : tie.Need-same-length-2 Inv-loop μ-loop
-same-length-2 c = search needs
+same-length-3 : tie.Need-same-length-3 Inv-loop μ-loop
+same-length-3 c = omega (arith, c .before .loop .inv .2)
 
-returns-2 : tie.Need-returns-2 Inv-loop μ-loop
-returns-2 c =
-    let l = c .before .loop .inv in
-    l .0 _ _ (rows-done _ _ _ _ _ _ _ _ (c .loop-test .left))
+returns-3 : tie.Need-returns-3 Inv-loop μ-loop
+returns-3 c =
+    let s = c .before .before .before .before .before .before .before in
+    let (b, a) = words-all typeWords 0 (typeEntryAt (s .args .«class»)) _ _ (s .pre .0) _ _ (c .before .before .first-entry .ensures) in
+    words-as _ _ _ _ _ _ a (c .before .loop .inv .0 _ _ (words-done typeWords _ _ _ _ _ _ _ _ _ _ _ _ _ _ (c .loop-test .left) refl))
 
 pub decode-type-entries-spec : {M : Type 1} → statement M
 decode-type-entries-spec =
@@ -95,19 +175,31 @@ decode-type-entries-spec =
     (tie.spec
     Inv-loop
     μ-loop
-    mul-data
-    add-data
-    start-at-requires
+    sub-run
+    part-run-start
+    part-run-end
+    sub-data
+    part-data-start
+    part-data-end
+    first-entry-requires
     loop-holds
-    add-start-at
-    start-at-requires-2
-    bounded-entry-requires
+    next-entry-requires
     enum-known-x
     same-length
     returns
+    enum-known-behind
+    sub-decode-type-entry
+    part-decode-type-entry-start
+    part-decode-type-entry-end
+    decode-type-entry-requires
+    enum-known-x-2
+    add-t36
+    add-t37
+    same-length-2
+    returns-2
     enum-known-row
-    add-i
+    sub-left
     loop-less
     loop-again
-    same-length-2
-    returns-2)
+    same-length-3
+    returns-3)
