@@ -3,7 +3,7 @@
 import random
 
 import walk
-from harness import ROOT, Case, parsed
+from harness import FILES, Case, parsed
 from images import CONSTANT, HEADER, HINTS, HINTS_TEXT, STRING, EVERY_SECTIONS_TEXT, Image, every, table
 
 MAGIC_TEXT = "refused: the first eight bytes are not those of Tile IR bytecode, in the magic or the version"
@@ -88,7 +88,7 @@ class Sections(Case):
     def test_damaged_files(self):
         """Bytes behind the magic are changed, put in and taken out; the seed is fixed."""
         numbers = random.Random(14)
-        corpus = [path.read_bytes() for path in sorted((ROOT / "hosts/cpp/fuzz/corpus/file").iterdir())]
+        corpus = [path.read_bytes() for path in sorted(FILES)]
         files = list(corpus)
         while len(files) < 400:
             data = bytearray(numbers.choice([*corpus, every().bytes]))
