@@ -10,7 +10,7 @@
 # make lint: the layout of every source file, clippy and shellcheck.
 # make setup: installs the tools that are missing; the commands above do it by themselves.
 # make corpus: writes the files that the fuzzer starts from.
-# make answers: writes the list of decoder.rs's answers that the reader tests replay.
+# make answers: writes decoder.rs's answers, and the files of the genuine writer, that the reader tests have.
 # make clean: removes all that was made.
 
 SHELL := bash
@@ -34,6 +34,8 @@ RUST_SOURCE ?= ../shared/docs/src
 HAS_RUST := $(wildcard $(RUST_SOURCE)/src/bytecode/encoding.rs)
 export TIKOMUCI_RUST_SOURCE := $(abspath $(RUST_SOURCE))
 IN_RUST := --manifest-path hosts/rust/Cargo.toml --locked --quiet
+READER_TESTS := test $(IN_RUST) --package boundary --package plain --package sha256 --lib --tests
+COMPARE := run $(IN_RUST) --package differential
 ANSWERS := hosts/rust/boundary/tests/data/answers.txt
 
 # In the gate a warning is an error; to a user, whose compiler may warn of more, it is none.
@@ -57,7 +59,7 @@ PARTS := comparison cpp-tests $(if $(EMULATED),emulated-tests) archive-tests ins
     reader-tests setup-tests
 
 test: build/setup
-	rm -f build/times
+	sed -i '/^== set-up: /!d' build/times
 	tools/timed "lint" $(MAKE) lint
 	tools/timed "proofs, must-fail edits and programs" $(MAKE) verdict
 	tools/timed "hosts, two parts at a time" $(MAKE) $(TWO) $(PARTS) FUZZ_SECONDS=30
@@ -74,6 +76,7 @@ proofs: build/setup
 verdict: build/setup
 	rm -rf build/proved $(LIBRARY) $(X86_64_LIBRARY) build/module
 	$(ALONE) $(RT) ci 2>&1 | tee build/ci.log
+	tools/edit-costs build/ci.log
 
 command: build/tikomuci
 
@@ -89,13 +92,13 @@ emulated-tests: build/x86-64/all_tests build/x86-64/tikomuci
 	tools/timed "command tests, x86-64" command/tests $(RUN) build/x86-64/tikomuci
 	tools/timed "reader tests, x86-64" $(X86_64_CARGO) $(READER_TESTS)
 
-READER_TESTS := test $(IN_RUST) --package boundary --package plain --lib --tests
 reader-tests: $(LIBRARY) | build/setup
 	tools/timed "reader tests" cargo $(READER_TESTS)
 
 comparison: $(X86_64_LIBRARY) | build/setup
 ifneq ($(HAS_RUST),)
-	tools/timed "comparison with the Rust" $(X86_64_CARGO) run $(IN_RUST) --release --package differential -- $(SEED)
+	tools/timed "comparison with the Rust" $(X86_64_CARGO) $(COMPARE) --release -- $(COMPARED)
+	tools/timed "comparison with overflow checks" $(X86_64_CARGO) $(COMPARE) --profile checked -- --small $(COMPARED)
 else ifeq ($(CI),true)
 	@echo "no Rust source at $(RUST_SOURCE): with CI=true the comparison may not be left out" >&2; exit 1
 else
@@ -111,7 +114,8 @@ endif
 
 answers: $(X86_64_LIBRARY) | build/setup
 ifneq ($(HAS_RUST),)
-	$(X86_64_CARGO) run $(IN_RUST) --release --package differential -- --write-answers $(ANSWERS)
+	$(X86_64_CARGO) $(COMPARE) --release -- --write-answers $(ANSWERS)
+	$(X86_64_CARGO) $(COMPARE) --release -- --keep $(GENUINE)/fixed hosts/files
 else
 	@echo "no Rust source at $(RUST_SOURCE): there is nobody to ask" >&2; exit 1
 endif
@@ -158,6 +162,7 @@ ifneq ($(EMULATED),)
 $(eval $(call programs,build/x86-64,$(X86_64_LIBRARY)))
 endif
 
+include hosts/rust/genuine.mk
 include tools/sanitizers.mk
 include packaging/install.mk
 

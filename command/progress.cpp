@@ -47,11 +47,11 @@ void Progress::now(const char *what, std::uint64_t total) {
     total_ = total;
 }
 
-void Progress::now_writing() {
+void Progress::now_printing() {
     if (isatty(STDOUT_FILENO) != 0) {
         rest();
     } else {
-        now("writing");
+        now("printing");
     }
 }
 

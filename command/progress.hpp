@@ -24,8 +24,8 @@ class Progress {
     /// What is done to it from now on, and how many bytes that takes; 0 if nobody knows.
     void now(const char *what, std::uint64_t total = 0);
 
-    /// The same for writing to standard output. If that is a terminal, the line would stand in the text, and is gone.
-    void now_writing();
+    /// The same for what goes to standard output. If that is a terminal, the line would stand in the text, and is gone.
+    void now_printing();
 
     void advance(std::uint64_t bytes);
 

@@ -61,7 +61,7 @@ Status show(Session &session, const std::string &name) {
         throw std::bad_alloc();
     }
     const Container container(file);
-    session.progress.now_writing();
+    session.progress.now_printing();
     if (!tables) {
         return show_refused(session, name, container, tables.outcome());
     }
@@ -111,7 +111,11 @@ Status write_part(Session &session, const std::string &name) {
     if (!part) {
         return refused(session, name, part.outcome());
     }
-    session.progress.now_writing();
+    if (call.out == "-") {
+        session.progress.now_printing();
+    } else {
+        session.progress.now("writing", part->size());
+    }
     write_out(call.out, *part, session.progress);
     if (call.json) {
         const auto offset = static_cast<std::uint64_t>(part->data() - file.data());
@@ -125,7 +129,6 @@ Status failed(Session &session, const std::string &name, const Failure &failure)
         object::put_failure(session.out, name, failure);
     }
     session.errors << "tikomuci: " << escaped(failure.path) << ": " << failure.why << '\n';
-    session.errors.flush();
     return failure.status;
 }
 

@@ -15,6 +15,8 @@ from images import every
 COMMAND = []
 
 ROOT = Path(__file__).resolve().parent.parent.parent
+# Those of the library's own writer, and those of the genuine one.
+FILES = [*(ROOT / "hosts/cpp/fuzz/corpus/file").iterdir(), *(ROOT / "hosts/files").glob("*.tileirbc")]
 TIMEOUT = 300
 MISUSED, UNREADABLE, UNWRITTEN, MEMORY = 2, 3, 4, 5
 

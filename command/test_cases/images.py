@@ -67,6 +67,14 @@ class Image:
         return {**head, "sections": sections, "end": self.end_at, "broken": None}
 
 
+def large_constant(size):
+    """A file with one constant of so many zeros: its first bytes, and how long it is. All others are zeros too."""
+    starts = table([b""], 8)
+    head = Image().bytes + bytes([CONSTANT + 128]) + varint(len(starts) + size) + varint(8)
+    head += padding(len(head), 8) + starts
+    return head, len(head) + size + 1
+
+
 NO_ROWS = {
     "producer": None,
     **{name: [] for name in ("strings", "types", "constants", "globals", "functions", "attributes", "lists")},

@@ -8,7 +8,7 @@ from images import STRING, Image, every, table
 
 LETTERS = [chr(code) for code in range(0x110000) if not 0xD800 <= code <= 0xDFFF]
 # C0, C1, the direction of writing, lines, and what is not seen, the last of it above FFFF.
-HOSTILE_NAMES = [b"a\x1b[31mb", b"a\nb", b"a\xc2\x9bb", "a\u202eb".encode(), "a\u2028b".encode(), "a\U000e0041b".encode()]
+HOSTILE_NAMES = [text.encode() for text in ("a\x1b[31mb", "a\nb", "a\x9bb", "a\u202eb", "a\u2028b", "a\U000e0041b")]
 ESCAPED_NAMES = [r"a\x1b[31mb", r"a\x0ab", r"a\u{9b}b", r"a\u{202e}b", r"a\u{2028}b", r"a\u{e0041}b"]
 # A continuation alone, a character that is cut, a long form, a surrogate, above 10FFFF, and a lead that does not exist.
 NO_UTF8 = [b"a\x80", b"a\xe2\x82", b"\xc0\xafa", b"\xed\xa0\x80", b"\xf4\x90\x80\x80", b"\xffa"]

@@ -50,7 +50,8 @@ class Input(Case):
     def test_what_cannot_be_read(self):
         self.file("vanished", every().bytes)
         os.remove(self.folder / "vanished")
-        for name, why in {"vanished": "No such file or directory", ".": "Is a directory", "": "No such file or directory"}.items():
+        absent = "No such file or directory"
+        for name, why in {"vanished": absent, "": absent, ".": "Is a directory"}.items():
             error = f"tikomuci: {name}: {why}\n"
             self.says(UNREADABLE, "", error, "show", name)
             self.says(UNREADABLE, "", error, "constant", name, "0", "-o", "out")

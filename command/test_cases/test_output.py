@@ -10,7 +10,7 @@ import time
 
 import harness
 from harness import UNWRITTEN, Case
-from images import CONSTANT, HINTS, HINTS_TEXT, Image, checksum, every, table
+from images import CONSTANT, HINTS, HINTS_TEXT, Image, checksum, every, large_constant, table
 
 PROFILE = b"\xde\xad\xbe"
 ABSENT = "refused: what was asked for is not there (refusal 14, stage 10)\n"
@@ -45,8 +45,8 @@ class Parts(Case):
     def test_a_refusal_leaves_out_as_it_was(self):
         self.file("out", b"old")
         before = self.state("out")
-        parts = {("string", "2"), ("constant", "1"), ("body", "18446744073709551615"), ("section", "8"), ("section", "0")}
-        for verb, part in parts:
+        far = str(2**64 - 1)
+        for verb, part in [("string", "2"), ("constant", "1"), ("body", far), ("section", "8"), ("section", "0")]:
             self.says(1, "every: " + ABSENT, "", verb, "every", part, "-o", "out")
             one = self.object(1, "", verb, "--json", "every", part, "-o", "out")
             self.assertEqual((one["status"], one["accepted"], one["refusal"], one["stage"]), (1, False, 14, 10))
@@ -147,30 +147,33 @@ class Replaced(Case):
         self.holds("out", b"old")
         self.assertEqual(self.names(), {"every", "hints", "out", "command"})
 
-    def ended_while_it_writes(self, number):
-        """Whether the signal came before all was written. The bytes are so many that this takes a while."""
-        words = [*harness.COMMAND, "constant", "large", "0", "-o", "out"]
-        with subprocess.Popen(words, cwd=self.folder, stdin=subprocess.DEVNULL) as process:
+    def write_large(self, size, **options):
+        """Begins to write many bytes, which takes a while."""
+        head, length = large_constant(size)
+        self.file("large", head)
+        os.truncate(self.folder / "large", length)
+        return subprocess.Popen([*harness.COMMAND, "constant", "large", "0", "-o", "out"], cwd=self.folder, **options)
+
+    def ended_while_it_writes(self, number, size):
+        """Whether the signal came before all was written."""
+        self.file("out", b"old")
+        with self.write_large(size) as process:
             while process.poll() is None and not any(name.startswith(".tikomuci-") for name in self.names()):
                 time.sleep(0.001)
             process.send_signal(number)
-        return process.returncode == -number
+        self.assertEqual(self.names(), {"every", "hints", "large", "out"})
+        there = (self.folder / "out").stat().st_size
+        self.assertIn(there, (3, size), "the old bytes or the new ones")
+        return there == 3 and process.returncode == -number
 
     def test_a_signal_leaves_nothing_behind(self):
-        self.file("large", Image().add(CONSTANT, table([bytes(2**26)], 8), 8).end().bytes)
         for number in (signal.SIGTERM, signal.SIGINT, signal.SIGHUP):
-            self.file("out", b"old")
-            self.assertTrue(any(self.ended_while_it_writes(number) for _ in range(20)))
-            self.assertEqual(self.names(), {"every", "hints", "large", "out"})
-            self.assertLess((self.folder / "out").stat().st_size % 2**26, 4, "the old bytes or the new ones")
+            sizes = [2**bits for bits in range(25, 31)]
+            self.assertTrue(any(self.ended_while_it_writes(number, size - 64) for size in sizes))
 
     def test_a_signal_that_is_ignored_stays_so(self):
-        self.file("large", Image().add(CONSTANT, table([bytes(2**26)], 8), 8).end().bytes)
-        with subprocess.Popen(
-            [*harness.COMMAND, "constant", "large", "0", "-o", "out"],
-            cwd=self.folder,
-            preexec_fn=lambda: signal.signal(signal.SIGHUP, signal.SIG_IGN),
-        ) as process:
+        ignore = lambda: signal.signal(signal.SIGHUP, signal.SIG_IGN)
+        with self.write_large(2**26, preexec_fn=ignore) as process:
             while process.poll() is None:
                 process.send_signal(signal.SIGHUP)
                 time.sleep(0.01)

@@ -7,60 +7,87 @@ import subprocess
 import time
 
 import harness
-from harness import Case
+from harness import TIMEOUT, Case
 from images import every
 
 
+class Terminal:
+    """What a program writes to a terminal."""
+
+    def __init__(self, case):
+        self.ours, self.theirs = pty.openpty()
+        self.seen = b""
+        case.addCleanup(os.close, self.ours)
+
+    def wait_for(self, text):
+        """Until this is seen, or nothing more comes."""
+        while text not in self.seen and select.select([self.ours], [], [], TIMEOUT)[0]:
+            try:
+                self.seen += os.read(self.ours, 4096)
+            except OSError:
+                return
+
+    def lines(self):
+        """What stood in the line, one after the other."""
+        return [line.rstrip(" ") for line in self.seen.decode().split("\r")]
+
+
 class Progress(Case):
-    def watched(self, pause, *words, out=None):
-        """Feeds a file to standard input with a pause in it; what a terminal got meanwhile, and standard output."""
-        ours, theirs = pty.openpty()
-        self.addCleanup(os.close, ours)
-        streams = {"stdin": subprocess.PIPE, "stdout": theirs if out else subprocess.PIPE, "stderr": theirs}
+    def watched(self, *words, out=subprocess.PIPE):
+        """Feeds half of a file to standard input, and the rest when progress is seen."""
+        terminal = Terminal(self)
+        out = terminal.theirs if out == "terminal" else out
+        streams = {"stdin": subprocess.PIPE, "stdout": out, "stderr": terminal.theirs}
         data = every().bytes
         with subprocess.Popen([*harness.COMMAND, *words], cwd=self.folder, **streams) as process:
-            os.close(theirs)
+            os.close(terminal.theirs)
             process.stdin.write(data[:50])
             process.stdin.flush()
-            time.sleep(pause)
+            terminal.wait_for(b"reading")
             process.stdin.write(data[50:])
             process.stdin.close()
-            said = b"" if out else process.stdout.read()
+            said = process.stdout.read().decode() if process.stdout else None
             self.assertEqual(process.wait(), 0)
-        return self.drained(ours), said.decode()
-
-    def drained(self, terminal):
-        seen = b""
-        while select.select([terminal], [], [], 0.1)[0]:
-            try:
-                seen += os.read(terminal, 4096)
-            except OSError:
-                break
-        return seen.decode()
+        terminal.wait_for(b"the end")
+        return terminal, said
 
     def test_a_file_that_takes_more_than_a_second(self):
-        seen, said = self.watched(2, "check", "-")
+        begun = time.monotonic()
+        terminal, said = self.watched("check", "-")
+        self.assertGreater(time.monotonic() - begun, 1)
         self.assertEqual(said, "-: accepted\n")
-        lines = [line.rstrip() for line in seen.split("\r")]
-        self.assertIn("tikomuci: reading, 0 MiB, 1 s", lines)
-        self.assertEqual(lines[-2:], ["", ""], "the line is gone in the end")
-        self.assertNotIn("\n", seen)
+        lines = terminal.lines()
+        self.assertRegex(lines[1], r"^tikomuci: reading, 0 MiB, [1-9]\d* s$")
+        self.assertEqual((lines[0], lines[-2:]), ("", ["", ""]), "the line is gone in the end")
+        self.assertNotIn(b"\n", terminal.seen)
 
     def test_which_of_several_files(self):
-        seen, said = self.watched(2, "check", "every", "-", "every")
+        terminal, said = self.watched("check", "every", "-", "every")
         self.assertEqual(said, "every: accepted\n-: accepted\nevery: accepted\n")
-        self.assertIn("tikomuci: file 2 of 3, reading, 0 MiB, 1 s", [line.rstrip() for line in seen.split("\r")])
-
-    def test_a_file_that_is_quick(self):
-        self.assertEqual(self.watched(0, "check", "-"), ("", "-: accepted\n"))
+        shown = [line for line in terminal.lines() if "reading" in line]
+        self.assertRegex(shown[-1], r"^tikomuci: file 2 of 3, reading, 0 MiB, [1-9]\d* s$")
 
     def test_the_line_does_not_stand_in_the_text(self):
-        seen, _ = self.watched(2, "check", "-", out="the terminal")
-        self.assertRegex(seen, r"tikomuci: reading, 0 MiB, 1 s *\r.*\r +\r-: accepted\r\n$")
+        terminal, _ = self.watched("check", "-", out="terminal")
+        self.assertRegex(terminal.seen, rb"reading, 0 MiB, \d+ s *(\r.*)?\r +\r-: accepted\r\n$")
+
+    def test_a_file_that_is_quick(self):
+        """On a machine that is too busy no file is."""
+        for _ in range(20):
+            terminal = Terminal(self)
+            begun = time.monotonic()
+            command = [*harness.COMMAND, "check", "every"]
+            subprocess.run(command, cwd=self.folder, stdout=subprocess.DEVNULL, stderr=terminal.theirs, check=True)
+            took = time.monotonic() - begun
+            os.close(terminal.theirs)
+            if took < 1:
+                terminal.wait_for(b"anything")
+                self.assertEqual(terminal.seen, b"")
+                return
+        self.skipTest("each call took more than a second")
 
     def test_no_terminal(self):
-        with subprocess.Popen(
-            [*harness.COMMAND, "check", "-"], stdin=subprocess.PIPE, stdout=subprocess.PIPE, stderr=subprocess.PIPE
-        ) as process:
+        streams = {"stdin": subprocess.PIPE, "stdout": subprocess.PIPE, "stderr": subprocess.PIPE}
+        with subprocess.Popen([*harness.COMMAND, "check", "-"], **streams) as process:
             time.sleep(1.5)
             self.assertEqual(process.communicate(every().bytes), (b"-: accepted\n", b""))

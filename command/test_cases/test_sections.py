@@ -3,7 +3,7 @@
 import random
 
 import walk
-from harness import ROOT, Case, parsed
+from harness import FILES, Case, parsed
 from images import CONSTANT, HEADER, HINTS, HINTS_TEXT, STRING, EVERY_SECTIONS_TEXT, Image, every, table
 
 MAGIC_TEXT = "refused: the first eight bytes are not those of Tile IR bytecode, in the magic or the version"
@@ -78,9 +78,8 @@ class Sections(Case):
 
     def test_a_header_that_is_refused(self):
         self.file("elf", b"\x7fELF\x02\x1b[31m")
-        self.says(
-            1, f'elf: {MAGIC_TEXT} (refusal 4, stage 1)\n10 bytes, beginning with "\\x7fELF\\x02\\x1b[31m"\n', "", "show", "elf"
-        )
+        text = f'elf: {MAGIC_TEXT} (refusal 4, stage 1)\n10 bytes, beginning with "\\x7fELF\\x02\\x1b[31m"\n'
+        self.says(1, text, "", "show", "elf")
 
     def test_every_cut(self):
         data = every().bytes
@@ -89,7 +88,7 @@ class Sections(Case):
     def test_damaged_files(self):
         """Bytes behind the magic are changed, put in and taken out; the seed is fixed."""
         numbers = random.Random(14)
-        corpus = [path.read_bytes() for path in sorted((ROOT / "hosts/cpp/fuzz/corpus/file").iterdir())]
+        corpus = [path.read_bytes() for path in sorted(FILES)]
         files = list(corpus)
         while len(files) < 400:
             data = bytearray(numbers.choice([*corpus, every().bytes]))

@@ -3,7 +3,7 @@
 import hashlib
 import os
 
-from harness import ROOT, Case
+from harness import FILES, Case
 from images import (
     CONSTANT,
     EVERY_ROWS,
@@ -92,10 +92,11 @@ class Shown(Case):
         objects = self.objects(3, absent, "show", "--json", "every", "hints", "absent", "every")
         self.assertEqual([one["status"] for one in objects], [0, 1, 3, 0])
 
-    def test_the_corpus(self):
-        corpus = sorted(map(str, (ROOT / "hosts/cpp/fuzz/corpus/file").iterdir()))
-        objects = self.objects(0, "", "show", "--json", *corpus)
-        self.assertEqual([one["file"] for one in objects], corpus)
+    def test_files_of_both_writers(self):
+        """The map of the sections by the second walk, and the checksum of what stands at the offset."""
+        files = sorted(map(str, FILES))
+        objects = self.objects(0, "", "show", "--json", *files)
+        self.assertEqual([one["file"] for one in objects], files)
         for one in objects:
             with open(one["file"], "rb") as file:
                 data = file.read()
@@ -104,6 +105,7 @@ class Shown(Case):
             for constant in one["constants"]:
                 part = data[constant["offset"] : constant["offset"] + constant["length"]]
                 self.assertEqual({"offset": constant["offset"], **checksum(part)}, constant)
+        self.assertTrue(self.said("show", *files)[1].startswith(f"{files[0]}: accepted\n"))
 
 
 class Checksums(Case):

@@ -18,6 +18,17 @@ fn module(visibility: &str, name: &str, file: &Path) -> String {
     format!("#[path = {file:?}]\n{visibility} mod {name};\n")
 }
 
+/// A constant with the texts that are compiled. That of decoder.rs is the copy up to the line that was added.
+fn sources(source: &Path, decoder: &Path, size: usize) -> String {
+    let whole = |name: &str| format!("({name:?}, include_bytes!({:?})),\n", source.join(name));
+    let texts = ["bytecode/encoding.rs", "bytecode/enums.rs", "ir/types.rs"].map(whole).concat();
+    format!(
+        "/// The files that are compiled here, by name.\n\
+         pub const SOURCES: [(&str, &[u8]); 4] = [\n{texts}\
+         (\"bytecode/decoder.rs\", include_bytes!({decoder:?}).split_at({size}).0),\n];\n"
+    )
+}
+
 fn main() {
     let source = source();
     let out = PathBuf::from(env::var_os("OUT_DIR").expect("cargo sets OUT_DIR"));
@@ -28,7 +39,7 @@ fn main() {
     let text = fs::read_to_string(&original).expect("decoder.rs can be read");
     let window = Path::new(env!("CARGO_MANIFEST_DIR")).join("src/window.rs");
     let decoder = out.join("decoder.rs");
-    fs::write(&decoder, text + "\n" + &module("pub", "window", &window)).expect("OUT_DIR can be written");
+    fs::write(&decoder, format!("{text}\n{}", module("pub", "window", &window))).expect("OUT_DIR can be written");
 
     let tree = format!(
         "#[allow(clippy::all)]\npub mod bytecode {{\n{}{}{}pub use enums::*;\n}}\n\
@@ -38,5 +49,5 @@ fn main() {
         module("", "enums", &source.join("bytecode/enums.rs")),
         module("", "types", &source.join("ir/types.rs")),
     );
-    fs::write(out.join("tree.rs"), tree).expect("OUT_DIR can be written");
+    fs::write(out.join("tree.rs"), tree + &sources(&source, &decoder, text.len())).expect("OUT_DIR can be written");
 }

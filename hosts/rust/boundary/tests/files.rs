@@ -1,17 +1,14 @@
 //! Whole files against recorded answers of decoder.rs. These tests need no Rust source beside the repository: the
 //! answers are those of tests/data/answers.txt, whose head says how they were made.
 
+mod reading;
+
 use std::collections::BTreeMap;
 
 use boundary::{Answer, ABSENT, FULL, LIMIT, STAGE_LIMITS};
-use dump::Present;
+use reading::{read, text, UNTOUCHED};
 
 const ANSWERS: &str = include_str!("data/answers.txt");
-
-const FUNC: u64 = 2;
-const DEBUG: u64 = 3;
-const UNTOUCHED: u8 = 0xA5;
-const MOST_TEXT: usize = 1 << 16;
 
 /// Every refusal that reading a small file can give, as number@stage.
 const REFUSALS: [&str; 31] = [
@@ -59,17 +56,6 @@ fn cases() -> Vec<Case> {
     lines.map(case).collect()
 }
 
-/// A file, its sheet and its pool, read into stores that fit.
-fn read(file: &[u8]) -> (Vec<u64>, Vec<u8>) {
-    let size = boundary::measure(file);
-    assert_eq!((size.refusal, size.stage), (0, 0), "{file:02X?}");
-    let mut sheet = vec![UNTOUCHED; 8 * size.first as usize];
-    let mut pool = vec![UNTOUCHED; size.second as usize];
-    assert_eq!(boundary::read(file, &mut sheet, &mut pool), size, "{file:02X?}");
-    let words = sheet.chunks_exact(8).map(|eight| u64::from_le_bytes(eight.try_into().unwrap())).collect();
-    (words, pool)
-}
-
 /// The number that an error of decoder.rs stands for.
 fn number(error: &str) -> u64 {
     let texts = [
@@ -97,9 +83,7 @@ fn accepted_files_have_the_text_of_decoder_rs() {
     assert!(accepted.len() >= 200, "{} accepted files", accepted.len());
     for Case { file, row, rust, .. } in accepted {
         let (words, pool) = read(&file);
-        let present = |id| boundary::section(&file, id).refusal == 0;
-        let text = dump::text(&words, &pool, Present { func: present(FUNC), debug: present(DEBUG) }, MOST_TEXT);
-        let text = text.expect("the text is short").escape_default().to_string();
+        let text = text(&file, &words, &pool).escape_default().to_string();
         assert_eq!((row, rust), ("-", format!("text \"{text}\"").as_str()), "{file:02X?}");
     }
 }

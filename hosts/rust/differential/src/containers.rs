@@ -1,12 +1,12 @@
 //! The view of a section against the header and the section walk of decoder.rs: files with sections of every id, longer
 //! spellings, alignments and paddings, and damaged copies of them.
 
-use boundary::{Answer, ABSENT, STAGE_HEADER, STAGE_SECTIONS};
-use oracle::bytecode::decoder::window::{refusal, sections};
+use boundary::{Answer, ABSENT, SHORT, STAGE_HEADER, STAGE_SECTIONS};
+use oracle::bytecode::decoder::window::{refusal, walk, Walk};
 use oracle::bytecode::encoding::EncodingWriter;
 use oracle::bytecode::MAGIC;
 
-use crate::tally::{Random, Tally};
+use crate::tally::{Against, Random, Report, Tally};
 
 const RANDOM_FILES: u64 = 60_000;
 
@@ -64,34 +64,37 @@ fn damage(random: &mut Random, file: &mut Vec<u8>) {
     }
 }
 
-fn wanted(file: &[u8], id: u64) -> Answer {
-    match sections(file) {
-        Ok(places) => places
+/// What decoder.rs says of a section. Where a length's end wraps it panics, and document 01 says what is wanted.
+fn wanted(file: &[u8], id: u64) -> (Against, Answer) {
+    let answer = match walk(file) {
+        Walk::Sections(places) => places
             .get(usize::try_from(id).unwrap_or(usize::MAX))
             .and_then(|place| *place)
             .map_or(Answer::refused(ABSENT), |(offset, length)| Answer::accepted(offset, length)),
-        Err((error, header_read)) => {
+        Walk::Error(error, header_read) => {
             Answer::refused_at(refusal(&error), if header_read { STAGE_SECTIONS } else { STAGE_HEADER })
         }
-    }
+        Walk::Wraps => return (Against::Known, Answer::refused_at(SHORT, STAGE_SECTIONS)),
+    };
+    (Against::Rust, answer)
 }
 
-pub fn compare(random: &mut Random, add: &mut impl FnMut(Tally)) {
+pub fn compare(random: &mut Random, report: &mut Report) {
     println!("views:");
-    let mut tally = Tally::new("section");
+    let mut tally = Tally::new("section", Against::Rust);
     let mut compare = |file: &[u8]| {
         for id in (0..10).chain([127, 255, 256, u64::MAX]) {
-            let (ours, wanted) = (boundary::section(file, id), wanted(file, id));
-            tally.case(ours == wanted, [file.len() as u64, id, 0], || {
-                format!("section {id} of {file:02X?}: {ours:?}, and decoder.rs says {wanted:?}")
+            let (ours, (against, wanted)) = (boundary::section(file, id), wanted(file, id));
+            tally.case_against(against, ours == wanted, [file.len() as u64, id, 0], || {
+                format!("section {id} of {file:02X?}: {ours:?}, and {wanted:?} is wanted")
             });
         }
     };
-    for _ in 0..RANDOM_FILES {
+    for _ in 0..report.share_of(RANDOM_FILES) {
         let mut file = random_file(random);
         compare(&file);
         damage(random, &mut file);
         compare(&file);
     }
-    add(tally);
+    report.add(tally);
 }

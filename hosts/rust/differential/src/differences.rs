@@ -1,18 +1,16 @@
 //! The intended differences of docs/DIFFERENCES.md at their smallest inputs: the Rust does what is said there, and ours
 //! answers instead.
 
-use std::panic::{catch_unwind, set_hook, take_hook, AssertUnwindSafe};
-
 use boundary::{Answer, ABSENT, FULL, SHORT, STAGE_SECTIONS};
-use oracle::bytecode::decoder::{decode_bytecode, window::Reader};
+use oracle::bytecode::decoder::window::Reader;
 use oracle::bytecode::encoding::{patch_u32, patch_u64, EncodingWriter};
 use oracle::bytecode::MAGIC;
 
-use crate::files::{invalid_utf8, smallest};
-use crate::tally::Tally;
+use crate::files::{ask, invalid_utf8, quietly, smallest, sums_are_checked, wrapping_end, Rust};
+use crate::tally::{Against, Report, Tally};
 
 fn panics<T>(work: impl FnOnce() -> T) -> bool {
-    catch_unwind(AssertUnwindSafe(work)).is_err()
+    quietly(work).is_err()
 }
 
 /// The Rust's output grows; ours is lent and is full.
@@ -41,13 +39,14 @@ fn run_whose_end_wraps() -> bool {
 /// A section length of 2^64 - 1.
 fn section_whose_end_wraps() -> bool {
     let file = [&MAGIC[..], &[13, 1, 0, 0, 1], &[0xFF; 9], &[1]].concat();
-    panics(|| decode_bytecode(&file).is_ok())
+    ask(&file) == Rust::Panic(wrapping_end())
         && boundary::section(&file, 1) == Answer::refused_at(SHORT, STAGE_SECTIONS)
 }
 
-/// Built without overflow checks, the Rust answers 2^64 - 1.
+/// Without overflow checks the Rust answers 2^64 - 1.
 fn remaining_past_the_end() -> bool {
-    !matches!(catch_unwind(|| Reader::at(&[], 1).remaining()), Ok(0)) && boundary::remaining(&[], 1) == 0
+    let wraps = quietly(|| Reader::at(&[], 1).remaining());
+    wraps.ok() == (!sums_are_checked()).then_some(usize::MAX) && boundary::remaining(&[], 1) == 0
 }
 
 type Difference = (&'static str, fn() -> bool);
@@ -62,11 +61,9 @@ const DIFFERENCES: [Difference; 7] = [
     ("a string that is no UTF-8", invalid_utf8),
 ];
 
-pub fn compare(add: &mut impl FnMut(Tally)) {
+pub fn compare(report: &mut Report) {
     println!("intended differences:");
-    let mut tally = Tally::new("as docs/DIFFERENCES.md says");
-    let loud = take_hook();
-    set_hook(Box::new(|_| {}));
+    let mut tally = Tally::new("as docs/DIFFERENCES.md says", Against::Rust);
     for (what, holds) in DIFFERENCES {
         tally.case(holds(), [0; 3], || format!("{what} is not as docs/DIFFERENCES.md says"));
     }
@@ -74,6 +71,5 @@ pub fn compare(add: &mut impl FnMut(Tally)) {
         let what = smallest.what;
         tally.case(smallest.holds(), [0; 3], || format!("{what} is not as docs/DIFFERENCES.md says"));
     }
-    set_hook(loud);
-    add(tally);
+    report.add(tally);
 }

@@ -4,7 +4,7 @@
 use oracle::bytecode::encoding::EncodingWriter;
 use oracle::ir::{ScalarType, Type};
 
-use crate::tally::{Random, Tally};
+use crate::tally::{Against, Random, Report, Tally};
 
 const RANDOM_CASES: u64 = 5_000_000;
 const SIGN: u64 = 1 << 63;
@@ -87,8 +87,8 @@ fn random_bits(random: &mut Random) -> u64 {
     (word & SIGN) | exponent << 52 | shaped
 }
 
-fn format(format: &Format, random: &mut Random) -> Tally {
-    let mut tally = Tally::new(format.name);
+fn format(format: &Format, random: &mut Random, cases: u64) -> Tally {
+    let mut tally = Tally::new(format.name, Against::Rust);
     let mut writer = EncodingWriter::with_capacity(16);
     let scalar = Type::Scalar(format.scalar);
     let mut compare = |bits: u64| {
@@ -104,7 +104,7 @@ fn format(format: &Format, random: &mut Random) -> Tally {
         compare(bits);
         compare(bits | SIGN);
     }
-    for _ in 0..RANDOM_CASES {
+    for _ in 0..cases {
         compare(random_bits(random));
     }
     own_values(format, &mut tally);
@@ -117,16 +117,17 @@ fn own_values(format: &Format, tally: &mut Tally) {
         for sign in [0, 0x80] {
             let bits = format.magnitude(code).to_bits() | u64::from(sign) << 56;
             let ours = (format.ours)(bits);
-            tally.case(ours == code | sign, [bits & !SIGN, bits >> 63, 0], || {
+            tally.case_against(Against::Known, ours == code | sign, [bits & !SIGN, bits >> 63, 0], || {
                 format!("the value of code {:02X} gives {ours:02X}", code | sign)
             });
         }
     }
 }
 
-pub fn compare(random: &mut Random, add: &mut impl FnMut(Tally)) {
+pub fn compare(random: &mut Random, report: &mut Report) {
     println!("8-bit floats:");
     for each in &FORMATS {
-        add(format(each, random));
+        let cases = report.share_of(RANDOM_CASES);
+        report.add(format(each, random, cases));
     }
 }

@@ -1,73 +1,62 @@
 //! Compares every call of the library with encoding.rs and decoder.rs: answers, written bytes, and bytes that must
-//! stay. A seed may be given as the argument or in TIKOMUCI_SEED. Exits with 1 if anything differs. With
-//! `--write-answers PATH` it writes the fixed list of decoder.rs's answers instead.
+//! stay. Exits with 1 if anything differs.
+//!
+//! differential [--small] [--genuine FOLDER] [SEED]
+//! differential --write-answers PATH
+//! differential --keep FROM TO
 
+mod arguments;
 mod containers;
 mod differences;
 mod files;
 mod floats;
+mod genuine;
+mod memory;
 mod readers;
 mod sheets;
+mod sources;
 mod tally;
 mod writers;
 
+use std::io;
+use std::path::Path;
 use std::process::ExitCode;
 
-use tally::{Random, Tally};
+use arguments::Task;
+use tally::{Random, Report};
 
-const SEED: u64 = 0x5449_4B4F_4D55_4349;
-
-fn seed() -> Result<u64, String> {
-    let given = std::env::args().nth(1).or_else(|| std::env::var("TIKOMUCI_SEED").ok());
-    given.map_or(Ok(SEED), |text| text.parse().map_err(|e| format!("the seed {text:?} is no number: {e}")))
+fn compare(seed: u64, share: u64, genuine: Option<&Path>) -> io::Result<ExitCode> {
+    println!("comparison with encoding.rs and decoder.rs, seed {seed}, one of {share} cases");
+    let mut random = Random::new(seed);
+    let mut report = Report::new(share);
+    sources::compare(&mut report);
+    writers::compare(&mut random, &mut report);
+    readers::compare(&mut random, &mut report);
+    containers::compare(&mut random, &mut report);
+    floats::compare(&mut random, &mut report);
+    files::compare(&mut random, &mut report);
+    sheets::compare(&mut random, &mut report);
+    differences::compare(&mut report);
+    match genuine {
+        Some(folder) => genuine::compare(folder, &mut random, &mut report)?,
+        None => println!("files of the genuine writer: LEFT OUT"),
+    }
+    Ok(if report.finish() { ExitCode::SUCCESS } else { ExitCode::FAILURE })
 }
 
-/// Writes the fixed list of decoder.rs's answers, if asked to.
-fn writes_answers() -> Option<ExitCode> {
-    let mut arguments = std::env::args().skip(1);
-    if arguments.next()? != "--write-answers" {
-        return None;
+fn done(task: Task) -> io::Result<ExitCode> {
+    match task {
+        Task::Compare { seed, share, genuine } => compare(seed, share, genuine.as_deref()),
+        Task::WriteAnswers(path) => files::write_answers(&path).map(|()| ExitCode::SUCCESS),
+        Task::Keep { from, to } => genuine::keep(&from, &to).map(|()| ExitCode::SUCCESS),
     }
-    let path = arguments.next()?;
-    Some(files::write_answers(&path).map_or_else(
-        |error| {
-            eprintln!("{path}: {error}");
-            ExitCode::from(2)
-        },
-        |()| ExitCode::SUCCESS,
-    ))
 }
 
 fn main() -> ExitCode {
-    if let Some(code) = writes_answers() {
-        return code;
-    }
-    let seed = match seed() {
-        Ok(seed) => seed,
-        Err(message) => {
-            eprintln!("{message}");
-            return ExitCode::from(2);
-        }
-    };
-    println!("comparison with encoding.rs and decoder.rs, seed {seed}");
-    let mut random = Random::new(seed);
-    let (mut cases, mut differing) = (0, 0);
-    let mut add = |tally: Tally| {
-        let (more, bad) = tally.finish();
-        cases += more;
-        differing += bad;
-    };
-    writers::compare(&mut random, &mut add);
-    readers::compare(&mut random, &mut add);
-    containers::compare(&mut random, &mut add);
-    floats::compare(&mut random, &mut add);
-    files::compare(&mut random, &mut add);
-    sheets::compare(&mut random, &mut add);
-    differences::compare(&mut add);
-    println!("{cases} cases compared, {differing} differ");
-    if differing == 0 {
-        ExitCode::SUCCESS
-    } else {
-        ExitCode::FAILURE
-    }
+    files::expect_panics();
+    let done = arguments::task().and_then(|task| done(task).map_err(|error| error.to_string()));
+    done.unwrap_or_else(|message| {
+        eprintln!("{message}");
+        ExitCode::from(2)
+    })
 }

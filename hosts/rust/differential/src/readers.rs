@@ -4,11 +4,12 @@ use boundary::{Answer, SHORT};
 use oracle::bytecode::decoder::window::{refusal, Reader};
 use oracle::Result;
 
-use crate::tally::{edges, Random, Tally};
+use crate::tally::{edges, Against, Random, Report, Tally};
 
 const RANDOM_CASES: u64 = 200_000;
 
-/// From here on a place plus a width may wrap in decoder.rs, which then panics. The answer wanted is refusal 2.
+/// From here on a place plus a width may wrap in decoder.rs, which then panics, and is not asked. The answer wanted is
+/// refusal 2.
 const FAR: u64 = 1 << 62;
 
 /// A reader of one value, which stands here as its bit pattern in 64 bits.
@@ -53,11 +54,13 @@ fn wanted(data: &[u8], at: u64, rust: impl FnOnce(&mut Reader) -> Result<u64>) -
     }
 }
 
-/// Compares one call, which was `asked` for so many bytes or such an alignment. The smallest input is the shortest.
-fn compare_call(tally: &mut Tally, data: &[u8], at: u64, asked: Option<u64>, ours: Answer, wanted: Answer) {
-    tally.case(ours == wanted, [data.len() as u64, at, asked.unwrap_or(0)], || {
-        let asked = asked.map_or(String::new(), |n| format!(", asked for {n}"));
-        format!("{data:02X?} at {at}{asked}: {ours:?}, and decoder.rs says {wanted:?}")
+/// Compares one call at a place, for so many bytes or such an alignment. `rust` is what decoder.rs answers, if it can be
+/// asked. The smallest input is the shortest.
+fn compare_call(tally: &mut Tally, data: &[u8], [at, n]: [u64; 2], ours: Answer, rust: Option<Answer>) {
+    let against = if rust.is_some() { Against::Rust } else { Against::Known };
+    let wanted = rust.unwrap_or(Answer::refused(SHORT));
+    tally.case_against(against, ours == wanted, [data.len() as u64, at, n], || {
+        format!("{data:02X?} at {at}, {n}: {ours:?}, and decoder.rs says {rust:?}")
     });
 }
 
@@ -117,18 +120,18 @@ fn random_place(random: &mut Random, len: usize) -> u64 {
     }
 }
 
-fn scalar(scalar: &Scalar, chosen: &[Vec<u8>], random: &mut Random) -> Tally {
-    let mut tally = Tally::new(scalar.name);
+fn scalar(scalar: &Scalar, chosen: &[Vec<u8>], random: &mut Random, cases: u64) -> Tally {
+    let mut tally = Tally::new(scalar.name, Against::Rust);
     let mut compare = |data: &[u8], at: u64| {
-        let reached = if at < FAR { wanted(data, at, scalar.rust) } else { Answer::refused(SHORT) };
-        compare_call(&mut tally, data, at, None, (scalar.ours)(data, at), reached);
+        let rust = (at < FAR).then(|| wanted(data, at, scalar.rust));
+        compare_call(&mut tally, data, [at, 0], (scalar.ours)(data, at), rust);
     };
     for data in chosen {
         for at in places(data.len()) {
             compare(data, at);
         }
     }
-    for _ in 0..RANDOM_CASES {
+    for _ in 0..cases {
         let data = random_input(random);
         let at = random_place(random, data.len());
         compare(&data, at);
@@ -136,15 +139,13 @@ fn scalar(scalar: &Scalar, chosen: &[Vec<u8>], random: &mut Random) -> Tally {
     tally
 }
 
-fn read_bytes(random: &mut Random) -> Tally {
-    let mut tally = Tally::new("read_bytes");
+fn read_bytes(random: &mut Random, cases: u64) -> Tally {
+    let mut tally = Tally::new("read_bytes", Against::Rust);
     let mut compare = |data: &[u8], at: u64, n: u64| {
-        let reached = if at.checked_add(n).is_some() {
+        let rust = at.checked_add(n).map(|_| {
             wanted(data, at, |r| r.read_bytes(n as usize).map(|run| run.as_ptr() as u64 - data.as_ptr() as u64))
-        } else {
-            Answer::refused(SHORT)
-        };
-        compare_call(&mut tally, data, at, Some(n), boundary::read_bytes(data, at, n), reached);
+        });
+        compare_call(&mut tally, data, [at, n], boundary::read_bytes(data, at, n), rust);
     };
     let data: Vec<u8> = (0..20).collect();
     for len in 0..=data.len() {
@@ -154,7 +155,7 @@ fn read_bytes(random: &mut Random) -> Tally {
             }
         }
     }
-    for _ in 0..RANDOM_CASES {
+    for _ in 0..cases {
         let data = random_input(random);
         let at = random_place(random, data.len());
         let n = if random.one_in(4) { random.number() } else { random.below(data.len() as u64 + 2) };
@@ -163,14 +164,14 @@ fn read_bytes(random: &mut Random) -> Tally {
     tally
 }
 
-fn skip_padding(random: &mut Random) -> Tally {
-    let mut tally = Tally::new("skip_padding");
+fn skip_padding(random: &mut Random, cases: u64) -> Tally {
+    let mut tally = Tally::new("skip_padding", Against::Rust);
     let mut compare = |data: &[u8], at: u64, alignment: u64| {
-        let reached = wanted(data, at, |r| {
+        let rust = wanted(data, at, |r| {
             r.skip_padding(alignment)?;
             Ok(r.pos() as u64 - at)
         });
-        compare_call(&mut tally, data, at, Some(alignment), boundary::skip_padding(data, at, alignment), reached);
+        compare_call(&mut tally, data, [at, alignment], boundary::skip_padding(data, at, alignment), Some(rust));
     };
     for alignment in (0..=20).chain([63, 64, 65, 1 << 32, 1 << 63, u64::MAX]) {
         for len in 0..=24 {
@@ -187,7 +188,7 @@ fn skip_padding(random: &mut Random) -> Tally {
             }
         }
     }
-    for _ in 0..RANDOM_CASES {
+    for _ in 0..cases {
         let mut data = vec![0xCB; random.below(40) as usize];
         for byte in &mut data {
             if random.one_in(16) {
@@ -202,27 +203,29 @@ fn skip_padding(random: &mut Random) -> Tally {
 }
 
 /// Past the data decoder.rs would go below 0; the answer wanted is 0.
-fn remaining(random: &mut Random) -> Tally {
-    let mut tally = Tally::new("remaining");
-    for _ in 0..RANDOM_CASES {
+fn remaining(random: &mut Random, cases: u64) -> Tally {
+    let mut tally = Tally::new("remaining", Against::Rust);
+    for _ in 0..cases {
         let data = random_input(random);
         let at = random_place(random, data.len());
-        let left = if at <= data.len() as u64 { Reader::at(&data, at as usize).remaining() as u64 } else { 0 };
+        let rust = (at <= data.len() as u64).then(|| Reader::at(&data, at as usize).remaining() as u64);
         let ours = boundary::remaining(&data, at);
-        tally.case(ours == left, [data.len() as u64, at, 0], || {
-            format!("{ours} at {at} of {} bytes, and decoder.rs says {left}", data.len())
+        let against = if rust.is_some() { Against::Rust } else { Against::Known };
+        tally.case_against(against, ours == rust.unwrap_or(0), [data.len() as u64, at, 0], || {
+            format!("{ours} at {at} of {} bytes, and decoder.rs says {rust:?}", data.len())
         });
     }
     tally
 }
 
-pub fn compare(random: &mut Random, add: &mut impl FnMut(Tally)) {
+pub fn compare(random: &mut Random, report: &mut Report) {
     println!("readers:");
+    let cases = report.share_of(RANDOM_CASES);
     let chosen = chosen_inputs();
     for each in &SCALARS {
-        add(scalar(each, &chosen, random));
+        report.add(scalar(each, &chosen, random, cases));
     }
-    add(read_bytes(random));
-    add(skip_padding(random));
-    add(remaining(random));
+    report.add(read_bytes(random, cases));
+    report.add(skip_padding(random, cases));
+    report.add(remaining(random, cases));
 }

@@ -5,7 +5,7 @@ use boundary::{Answer, ABSENT, FULL};
 use oracle::bytecode::encoding::{self, EncodingWriter};
 use oracle::ir::{ScalarType, Type};
 
-use crate::tally::{edges, Random, Tally};
+use crate::tally::{edges, Against, Random, Report, Tally};
 
 const RANDOM_CASES: u64 = 200_000;
 const MARGIN: usize = 16;
@@ -150,8 +150,8 @@ fn spelled(
     });
 }
 
-fn scalar(scalar: &Scalar, random: &mut Random) -> Tally {
-    let mut tally = Tally::new(scalar.name);
+fn scalar(scalar: &Scalar, random: &mut Random, cases: u64) -> Tally {
+    let mut tally = Tally::new(scalar.name, Against::Rust);
     let mut memory = Memory::new();
     let mut writer = EncodingWriter::with_capacity(64);
     let mut compare = |value: u64, place: (usize, u64)| {
@@ -166,7 +166,7 @@ fn scalar(scalar: &Scalar, random: &mut Random) -> Tally {
             }
         }
     }
-    for _ in 0..RANDOM_CASES {
+    for _ in 0..cases {
         let place = room(random, 24);
         compare(random.number(), place);
     }
@@ -177,11 +177,12 @@ fn scalar(scalar: &Scalar, random: &mut Random) -> Tally {
 fn slices<T: Copy>(
     name: &'static str,
     random: &mut Random,
+    cases: u64,
     element: fn(u64) -> T,
     ours: fn(&mut [u8], u64, &[T]) -> Answer,
     rust: fn(&mut EncodingWriter, &[T]),
 ) -> Tally {
-    let mut tally = Tally::new(name);
+    let mut tally = Tally::new(name, Against::Rust);
     let mut memory = Memory::new();
     let mut writer = EncodingWriter::with_capacity(LONGEST);
     let mut compare = |values: &[T], place: (usize, u64)| {
@@ -193,13 +194,13 @@ fn slices<T: Copy>(
     let edge_values: Vec<T> = edges().into_iter().map(element).collect();
     for count in [0, 1, 2, 3, 5, 126, 127, 128, 129, 200] {
         let enough = count * size_of::<T>() + 4;
-        for len in (0..=enough).step_by(if count < 10 { 1 } else { 7 }).chain(enough - 6..=enough) {
+        for len in (0..=enough).step_by(if count < 10 { 1 } else { 7 }).chain(enough.saturating_sub(6)..=enough) {
             for at in [0, 2, len as u64, len as u64 + 1, u64::MAX] {
                 compare(&edge_values[..count], (len, at));
             }
         }
     }
-    for _ in 0..RANDOM_CASES {
+    for _ in 0..cases {
         let count = if random.one_in(64) { 120 + random.below(16) } else { random.below(7) };
         let values: Vec<T> = (0..count).map(|_| element(random.number())).collect();
         let place = room(random, count * size_of::<T>() as u64 + 6);
@@ -222,8 +223,8 @@ fn rust_align_to(at: u64, required_alignment: u64, alignment: u64) -> Option<(Ve
     Some((writer.as_bytes()[at as usize..].to_vec(), writer.required_alignment()))
 }
 
-fn align_to(random: &mut Random) -> Tally {
-    let mut tally = Tally::new("align_to");
+fn align_to(random: &mut Random, cases: u64) -> Tally {
+    let mut tally = Tally::new("align_to", Against::Rust);
     let mut memory = Memory::new();
     let mut compare = |required: u64, alignment: u64, (len, at): (usize, u64)| {
         let reached = if at <= len as u64 { rust_align_to(at, required, alignment) } else { None };
@@ -234,7 +235,8 @@ fn align_to(random: &mut Random) -> Tally {
             _ => (Answer::refused(FULL), None),
         };
         let (ours, equal) = memory.lend(len, wanted, bytes, |out| boundary::align_to(out, at, required, alignment));
-        tally.case(equal, [alignment, at, len as u64], || {
+        let against = if reached.is_some() { Against::Rust } else { Against::Known };
+        tally.case_against(against, equal, [alignment, at, len as u64], || {
             format!("to {alignment} at {at} of an output of {len} bytes, {required} before: {ours:?}, not {wanted:?}")
         });
     };
@@ -245,7 +247,7 @@ fn align_to(random: &mut Random) -> Tally {
             }
         }
     }
-    for _ in 0..RANDOM_CASES {
+    for _ in 0..cases {
         let place = room(random, 80);
         let alignment = if random.one_in(8) { random.number() } else { random.below(70) };
         let required = 1 + random.below(100);
@@ -258,11 +260,11 @@ fn align_to(random: &mut Random) -> Tally {
 fn patch(
     name: &'static str,
     width: usize,
-    random: &mut Random,
+    (random, cases): (&mut Random, u64),
     call: fn(&mut [u8], u64, u64) -> Answer,
     rust: fn(&mut [u8], usize, u64),
 ) -> Tally {
-    let mut tally = Tally::new(name);
+    let mut tally = Tally::new(name, Against::Rust);
     let mut memory = Memory::new();
     let mut compare = |value: u64, (len, offset): (usize, u64)| {
         let inside = fits(offset, width, len);
@@ -276,7 +278,8 @@ fn patch(
             (Answer::refused(ABSENT), None)
         };
         let (ours, equal) = memory.lend(len, wanted, bytes, |buf| call(buf, offset, value));
-        tally.case(equal, [len as u64, offset, value], || {
+        let against = if inside { Against::Rust } else { Against::Known };
+        tally.case_against(against, equal, [len as u64, offset, value], || {
             format!("{value:#x} at {offset} of a buffer of {len} bytes: {ours:?}, not {wanted:?}")
         });
     };
@@ -287,40 +290,43 @@ fn patch(
             }
         }
     }
-    for _ in 0..RANDOM_CASES {
+    for _ in 0..cases {
         let place = room(random, 40);
         compare(random.word(), place);
     }
     tally
 }
 
-pub fn compare(random: &mut Random, add: &mut impl FnMut(Tally)) {
+pub fn compare(random: &mut Random, report: &mut Report) {
     println!("writers:");
+    let cases = report.share_of(RANDOM_CASES);
     for each in &SCALARS {
-        add(scalar(each, random));
+        report.add(scalar(each, random, cases));
     }
-    add(slices("write_bytes", random, |v| v as u8, boundary::write_bytes, |w, v| w.write_bytes(v)));
-    add(slices(
+    report.add(slices("write_bytes", random, cases, |v| v as u8, boundary::write_bytes, |w, v| w.write_bytes(v)));
+    report.add(slices(
         "write_le_var_size_i32",
         random,
+        cases,
         |v| v as i32,
         boundary::write_le_var_size_i32,
         |w, v| w.write_le_var_size_i32(v),
     ));
-    add(slices(
+    report.add(slices(
         "write_le_var_size_i64",
         random,
+        cases,
         |v| v as i64,
         boundary::write_le_var_size_i64,
         |w, v| w.write_le_var_size_i64(v),
     ));
-    add(align_to(random));
-    add(patch(
+    report.add(align_to(random, cases));
+    report.add(patch(
         "patch_u32",
         4,
-        random,
+        (random, cases),
         |buf, offset, v| boundary::patch_u32(buf, offset, v as u32),
         |buf, offset, v| encoding::patch_u32(buf, offset, v as u32),
     ));
-    add(patch("patch_u64", 8, random, boundary::patch_u64, encoding::patch_u64));
+    report.add(patch("patch_u64", 8, (random, cases), boundary::patch_u64, encoding::patch_u64));
 }

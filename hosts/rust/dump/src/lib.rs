@@ -1,5 +1,6 @@
 //! The text that decoder.rs's `decode_bytecode` makes of a file, made from the sheet, the pool and the presence of two
-//! sections. It needs no Rust source, so that recorded texts can be replayed by a clone that stands alone.
+//! sections. It needs no Rust source, so that recorded texts can be replayed by a clone that stands alone. What no
+//! accepted file has it shows as decoder.rs does, which takes some files that document 01 refuses.
 
 mod debug;
 mod sheet;
@@ -10,6 +11,7 @@ use std::fmt::Write;
 use sheet::Sheet;
 
 const KERNEL: u64 = 2;
+const HINTS: u64 = 4;
 
 /// Sections that leave a line in the text though their tables are empty.
 #[derive(Debug, Clone, Copy)]
@@ -81,12 +83,13 @@ fn functions(text: &mut Text, sheet: &Sheet, strings: &[String], types: &[String
     for [name, signature, flags, _location, size] in functions {
         let kind = if flags & KERNEL != 0 { "entry" } else { "func" };
         text.line(format_args!("  {kind} @{} : {}", named(strings, name), named(types, signature)))?;
-        text.line(format_args!("    body: {size} bytes, ~{size} ops\n"))?;
+        let hints = if flags & HINTS != 0 { "    [has optimization_hints]\n" } else { "" };
+        text.line(format_args!("    body: {size} bytes, ~{size} ops\n{hints}"))?;
     }
     Ok(())
 }
 
-/// The text of a sheet and its pool, which have to be those of an accepted file.
+/// The text of a sheet and its pool, which have to be those of a file that was read.
 pub fn text(words: &[u64], pool: &[u8], present: Present, limit: usize) -> Result<String, TooLong> {
     let sheet = Sheet::new(words, pool);
     let strings = sheet.strings();

@@ -1,5 +1,7 @@
 //! The names of types. A name holds those of the types that it refers to, which have to stand before it.
 
+use plain::fields::{parts, FUNC, GATHER_SCATTER_VIEW, PARTITION_VIEW, POINTER, STRIDED_VIEW, TENSOR_VIEW, TILE};
+
 use crate::sheet::Sheet;
 use crate::{named, TooLong};
 
@@ -7,36 +9,6 @@ const DYNAMIC: i64 = i64::MIN;
 
 const SCALARS: [&str; 12] =
     ["i1", "i8", "i16", "i32", "i64", "f16", "bf16", "f32", "tf32", "f64", "f8e4m3fn", "f8e5m2"];
-
-/// The fields of a row, taken one after the other.
-struct Fields<'a> {
-    left: &'a [u64],
-}
-
-impl<'a> Fields<'a> {
-    fn one(&mut self) -> u64 {
-        let (first, left) = self.left.split_first().expect("a row has all fields of its kind");
-        self.left = left;
-        *first
-    }
-
-    fn list(&mut self) -> &'a [u64] {
-        let count = self.one() as usize;
-        let (list, left) = self.left.split_at(count);
-        self.left = left;
-        list
-    }
-
-    /// The optional byte at the end, if the flags say so.
-    fn optional(&mut self, name: &str, flags: u64) -> String {
-        let value = self.one();
-        if flags & 1 != 0 {
-            format!(", {name}={value}")
-        } else {
-            String::new()
-        }
-    }
-}
 
 fn joined(numbers: &[u64], between: &str, show: fn(u64) -> String) -> String {
     numbers.iter().map(|&number| show(number)).collect::<Vec<_>>().join(between)
@@ -58,50 +30,11 @@ fn sizes(numbers: &[u64], between: &str) -> String {
     })
 }
 
-fn pointer(fields: &mut Fields, names: &[String]) -> String {
-    let flags = fields.one();
-    let element = named(names, fields.one());
-    format!("ptr<{element}{}>", fields.optional("ptr_attr", flags))
-}
-
-fn tile(fields: &mut Fields, names: &[String]) -> String {
-    let element = named(names, fields.one());
-    match i64s(fields.list(), "x") {
+fn tile(dims: &[u64], element: &str) -> String {
+    match i64s(dims, "x") {
         dims if dims.is_empty() => format!("tile<{element}>"),
         dims => format!("tile<{dims}x{element}>"),
     }
-}
-
-fn tensor_view(fields: &mut Fields, names: &[String]) -> String {
-    let flags = fields.one();
-    let element = named(names, fields.one());
-    let (shape, strides) = (sizes(fields.list(), "x"), sizes(fields.list(), ","));
-    format!("tensor_view<{shape}x{element}, strides=[{strides}]{}>", fields.optional("ptr_attr", flags))
-}
-
-fn partition_view(fields: &mut Fields, names: &[String]) -> String {
-    let flags = fields.one();
-    let shape = i32s(fields.list(), "x");
-    let view = named(names, fields.one());
-    let _map = fields.list();
-    format!("partition_view<tile=({shape}), tv={view}{}>", fields.optional("padding", flags))
-}
-
-fn gather_scatter_view(fields: &mut Fields, names: &[String]) -> String {
-    let flags = fields.one();
-    let shape = i32s(fields.list(), "x");
-    let (view, sparse) = (named(names, fields.one()), fields.one());
-    let padding = fields.optional("padding", flags);
-    format!("gather_scatter_view<tile=({shape}), tv={view}, sparse_dim={sparse}{padding}>")
-}
-
-fn strided_view(fields: &mut Fields, names: &[String]) -> String {
-    let flags = fields.one();
-    let (shape, strides) = (i32s(fields.list(), "x"), i32s(fields.list(), ","));
-    let view = named(names, fields.one());
-    let map = i32s(fields.list(), ",");
-    let padding = fields.optional("padding", flags);
-    format!("strided_view<tile=({shape}), traversal_strides=[{strides}], tv={view}, dim_map=[{map}]{padding}>")
 }
 
 /// The names of a list of types, which together may be long.
@@ -117,29 +50,44 @@ fn name_list(indices: &[u64], names: &[String], limit: usize) -> Result<String, 
     Ok(list)
 }
 
-fn func(fields: &mut Fields, names: &[String], limit: usize) -> Result<String, TooLong> {
-    let inputs = name_list(fields.list(), names, limit)?;
-    Ok(format!("({inputs}) -> ({})", name_list(fields.list(), names, limit)?))
+/// The name of a tag without fields.
+fn scalar(tag: u64) -> &'static str {
+    match tag {
+        17 => "token",
+        18 => "f8e8m0fnu",
+        19 => "f4e2m1fn",
+        22 => "i4",
+        0x82 => "f8e5m3fnu",
+        tag => SCALARS[tag as usize],
+    }
 }
 
 /// The name of a row; `names` are those before it.
 fn name(row: &[u64], names: &[String], limit: usize) -> Result<String, TooLong> {
-    let mut fields = Fields { left: row };
-    Ok(match fields.one() {
-        tag @ 0..=11 => SCALARS[tag as usize].to_owned(),
-        12 => pointer(&mut fields, names),
-        13 => tile(&mut fields, names),
-        14 => tensor_view(&mut fields, names),
-        15 => partition_view(&mut fields, names),
-        16 => func(&mut fields, names, limit)?,
-        17 => "token".to_owned(),
-        18 => "f8e8m0fnu".to_owned(),
-        19 => "f4e2m1fn".to_owned(),
-        20 => gather_scatter_view(&mut fields, names),
-        21 => strided_view(&mut fields, names),
-        22 => "i4".to_owned(),
-        0x82 => "f8e5m3fnu".to_owned(),
-        tag => unreachable!("no accepted file has a type tag {tag}"),
+    let Some((&tag, fields)) = row.split_first() else { return Ok("<read error>".to_owned()) };
+    let Some(parts) = parts(tag, fields) else { return Ok(format!("<unknown type tag {tag}>")) };
+    let lists = &parts.lists;
+    let of = |i: usize| named(names, parts.indices[i]);
+    let last = |name: &str| if parts.flags & 1 != 0 { format!(", {name}={}", parts.last) } else { String::new() };
+    Ok(match tag {
+        POINTER => format!("ptr<{}{}>", of(0), last("ptr_attr")),
+        TILE => tile(lists[0], of(0)),
+        TENSOR_VIEW => {
+            let (shape, strides) = (sizes(lists[0], "x"), sizes(lists[1], ","));
+            format!("tensor_view<{shape}x{}, strides=[{strides}]{}>", of(0), last("ptr_attr"))
+        }
+        PARTITION_VIEW => format!("partition_view<tile=({}), tv={}{}>", i32s(lists[0], "x"), of(0), last("padding")),
+        FUNC => format!("({}) -> ({})", name_list(lists[0], names, limit)?, name_list(lists[1], names, limit)?),
+        GATHER_SCATTER_VIEW => {
+            let (shape, view, sparse) = (i32s(lists[0], "x"), of(0), parts.indices[1]);
+            format!("gather_scatter_view<tile=({shape}), tv={view}, sparse_dim={sparse}{}>", last("padding"))
+        }
+        STRIDED_VIEW => {
+            let (shape, strides, map) = (i32s(lists[0], "x"), i32s(lists[1], ","), i32s(lists[2], ","));
+            let (view, padding) = (of(0), last("padding"));
+            format!("strided_view<tile=({shape}), traversal_strides=[{strides}], tv={view}, dim_map=[{map}]{padding}>")
+        }
+        tag => scalar(tag).to_owned(),
     })
 }
 

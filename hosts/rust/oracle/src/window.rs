@@ -83,24 +83,40 @@ impl<'a> Reader<'a> {
     }
 }
 
-/// Offset and length of each section's payload, or the error and whether the header was read before it. The steps are
-/// those of `decode_bytecode`, but for one: a length whose end would wrap is an error here, and a panic there.
-pub fn sections(data: &[u8]) -> std::result::Result<[Option<(u64, u64)>; 8], (Error, bool)> {
+/// What going over the sections of a file comes to.
+pub enum Walk {
+    /// Offset and length of each section's payload.
+    Sections([Option<(u64, u64)>; 8]),
+    /// An error, and whether the header was read before it.
+    Error(Error, bool),
+    /// A length whose end wraps, at which `decode_bytecode` panics.
+    Wraps,
+}
+
+/// The steps of `decode_bytecode` over the sections of a file.
+pub fn walk(data: &[u8]) -> Walk {
     let mut reader = super::Reader::new(data);
-    reader.read_header().map_err(|error| (error, false))?;
+    if let Err(error) = reader.read_header() {
+        return Walk::Error(error, false);
+    }
     let mut sections = super::RawSections::default();
     loop {
-        let header = reader.read_section_header().map_err(|error| (error, true))?;
+        let header = match reader.read_section_header() {
+            Ok(header) => header,
+            Err(error) => return Walk::Error(error, true),
+        };
         if header.id == super::Section::EndOfBytecode as u8 {
             break;
         }
         if reader.pos.checked_add(header.data_len).is_none() {
-            return Err((super::err("unexpected end of data"), true));
+            return Walk::Wraps;
         }
-        let payload = reader.read_bytes(header.data_len).map_err(|error| (error, true))?;
-        sections.insert(header.id, payload);
+        match reader.read_bytes(header.data_len) {
+            Ok(payload) => sections.insert(header.id, payload),
+            Err(error) => return Walk::Error(error, true),
+        }
     }
-    Ok(std::array::from_fn(|id| {
+    Walk::Sections(std::array::from_fn(|id| {
         let payload = sections.get(id as u8)?;
         Some((payload.as_ptr() as u64 - data.as_ptr() as u64, payload.len() as u64))
     }))

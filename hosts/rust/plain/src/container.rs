@@ -3,6 +3,7 @@
 use std::ops::Range;
 
 use crate::cursor::Cursor;
+use crate::manner::Manner;
 use crate::refusal::{stop, AtStage, Refusal, Stop, LIMIT, MAGIC};
 
 pub const MOST_BYTES: usize = 1 << 30;
@@ -10,7 +11,7 @@ pub const MAGIC_BYTES: &[u8] = b"\x7FTileIR\0";
 pub const END_OF_BYTECODE: u8 = 0;
 
 /// The version of the header; the order is that of its parts.
-#[derive(Debug, Clone, Copy, PartialEq, Eq, PartialOrd, Ord)]
+#[derive(Debug, Clone, Copy, Default, PartialEq, Eq, PartialOrd, Ord)]
 pub struct Version {
     pub major: u8,
     pub minor: u8,
@@ -62,9 +63,9 @@ fn walk(cursor: &mut Cursor) -> Result<Sections, Stop> {
 }
 
 /// The version and the sections of a file.
-pub fn sections(file: &[u8]) -> Result<(Version, Sections), Refusal> {
+pub fn sections(file: &[u8], manner: &mut impl Manner) -> Result<(Version, Sections), Refusal> {
     if file.len() > MOST_BYTES {
-        return Err(stop(LIMIT)).at_stage(0);
+        manner.over(stop(LIMIT)).at_stage(0)?;
     }
     let mut cursor = Cursor::new(file);
     let version = header(&mut cursor).at_stage(1)?;

@@ -21,14 +21,20 @@ pub enum Detail {
     None,
     /// A run of bytes whose end is past 2^64.
     EndWraps,
+    /// A string, a type or a constant that is not inside its data.
+    Outside,
     /// A field of a type entry, or its tag.
     TypeEntry,
     /// A type tag above 255.
     WideTag,
+    /// A count for which decoder.rs reserves more than there can be. Document 01 refuses what is missing.
+    Capacity,
+    /// A count for which decoder.rs reserves more than the memory that it has.
+    Memory,
 }
 
 /// Why reading a part stopped.
-#[derive(Debug, Clone, Copy)]
+#[derive(Debug, Clone, Copy, PartialEq, Eq)]
 pub struct Stop {
     pub number: u64,
     pub detail: Detail,

@@ -1,157 +1,128 @@
-//! The Type section: a row for each entry, by the kind that its tag says.
+//! The Type section: a row for each entry, by the fields of its tag.
 
 use std::ops::Range;
 
 use crate::container::Version;
 use crate::cursor::Cursor;
 use crate::entries;
-use crate::refusal::{stop, Detail, Stop, TYPE_TAG};
+use crate::fields::{fields, Field};
+use crate::manner::Manner;
+use crate::refusal::{Detail, Stop, TYPE_TAG};
 use crate::sheet::Table;
 
-pub const POINTER: u64 = 12;
-pub const TILE: u64 = 13;
-pub const TENSOR_VIEW: u64 = 14;
-pub const PARTITION_VIEW: u64 = 15;
-pub const FUNC: u64 = 16;
-pub const GATHER_SCATTER_VIEW: u64 = 20;
-pub const STRIDED_VIEW: u64 = 21;
+/// Where a row has its flags: behind the tag.
+const FLAGS: usize = 1;
+/// What decoder.rs reserves for the name of a type.
+const NAME: u64 = 24;
 
 /// An entry's fields and the row that they become.
-struct Row<'a> {
+struct Row<'a, 'm, M> {
     wire: Cursor<'a>,
     words: Vec<u64>,
+    manner: &'m mut M,
 }
 
-impl Row<'_> {
+/// A refusal inside a type entry.
+fn within(stop: Stop) -> Stop {
+    Stop { detail: Detail::TypeEntry, ..stop }
+}
+
+impl<M: Manner> Row<'_, '_, M> {
+    /// What was read. What is missing counts as 0 in a manner that reads on.
+    fn or_zero<T: Default>(&mut self, read: Result<T, Stop>) -> Result<T, Stop> {
+        read.or_else(|stop| self.manner.over(within(stop)).map(|()| T::default()))
+    }
+
+    fn byte(&mut self) -> Result<u8, Stop> {
+        let read = self.wire.byte();
+        self.or_zero(read)
+    }
+
     fn varint(&mut self) -> Result<u64, Stop> {
-        let value = self.wire.varint()?;
+        let read = self.wire.varint();
+        let value = self.or_zero(read)?;
         self.words.push(value);
         Ok(value)
     }
 
-    /// Flags that are there from some version on, and else 0.
-    fn flags(&mut self, there: bool) -> Result<u64, Stop> {
-        if there {
-            return self.varint();
-        }
-        self.words.push(0);
-        Ok(0)
-    }
-
-    /// A counted list of numbers of `width` bytes.
-    fn numbers(&mut self, width: u64) -> Result<(), Stop> {
-        for _ in 0..self.varint()? {
-            self.words.push(self.wire.fixed(width)?);
+    fn numbers(&mut self, width: u8) -> Result<(), Stop> {
+        let count = self.varint()?;
+        self.manner.reserve(count, width.into())?;
+        for _ in 0..count {
+            let read = self.wire.fixed(width.into());
+            let number = self.or_zero(read)?;
+            self.words.push(number);
         }
         Ok(())
     }
 
-    /// A counted list of varints.
     fn indices(&mut self) -> Result<(), Stop> {
-        for _ in 0..self.varint()? {
+        let count = self.varint()?;
+        self.manner.reserve(count, NAME)?;
+        for _ in 0..count {
             self.varint()?;
         }
         Ok(())
     }
 
-    /// The last byte of an entry: there if bit 0 of its flags is set.
-    fn byte_if(&mut self, flags: u64) -> Result<(), Stop> {
-        let byte = if flags & 1 != 0 { self.wire.byte()? } else { 0 };
-        self.words.push(byte.into());
+    fn fields(&mut self, fields: &[Field]) -> Result<(), Stop> {
+        let mut flags = 0;
+        for field in fields {
+            match field {
+                Field::Flags => flags = self.varint()?,
+                Field::Index => {
+                    self.varint()?;
+                }
+                Field::Numbers(width) => self.numbers(*width)?,
+                Field::Indices => self.indices()?,
+                Field::Presence => {
+                    flags = u64::from(self.byte()? != 0);
+                    self.words[FLAGS] = flags;
+                }
+                Field::LastByte if flags & 1 != 0 => {
+                    let byte = self.byte()?;
+                    self.words.push(byte.into());
+                }
+                Field::LastVarint if flags & 1 != 0 => {
+                    self.varint()?;
+                }
+                Field::NoFlags | Field::LateFlags | Field::LastByte | Field::LastVarint => self.words.push(0),
+            }
+        }
         Ok(())
     }
 
-    fn pointer(&mut self, version: Version) -> Result<(), Stop> {
-        let flags = self.flags(version.since(13, 4))?;
-        self.varint()?;
-        self.byte_if(flags)
-    }
-
-    fn tile(&mut self) -> Result<(), Stop> {
-        self.varint()?;
-        self.numbers(8)
-    }
-
-    fn tensor_view(&mut self, version: Version) -> Result<(), Stop> {
-        let flags = self.flags(version.since(13, 4))?;
-        self.varint()?;
-        self.numbers(8)?;
-        self.numbers(8)?;
-        self.byte_if(flags)
-    }
-
-    fn partition_view(&mut self) -> Result<(), Stop> {
-        let flags = self.varint()?;
-        self.numbers(4)?;
-        self.varint()?;
-        self.numbers(4)?;
-        self.byte_if(flags)
-    }
-
-    /// Below 13.3: the presence stands behind the map, and becomes the flags; the padding is a varint.
-    fn old_partition_view(&mut self) -> Result<(), Stop> {
-        let flags_at = self.words.len();
-        self.flags(false)?;
-        self.numbers(4)?;
-        self.varint()?;
-        self.numbers(4)?;
-        let present = self.wire.byte()? != 0;
-        self.words[flags_at] = present.into();
-        self.flags(present)?;
-        Ok(())
-    }
-
-    fn gather_scatter_view(&mut self) -> Result<(), Stop> {
-        let flags = self.varint()?;
-        self.numbers(4)?;
-        self.varint()?;
-        self.varint()?;
-        self.byte_if(flags)
-    }
-
-    fn strided_view(&mut self) -> Result<(), Stop> {
-        let flags = self.varint()?;
-        self.numbers(4)?;
-        self.numbers(4)?;
-        self.varint()?;
-        self.numbers(4)?;
-        self.byte_if(flags)
-    }
-
-    fn fields(&mut self, tag: u64, version: Version) -> Result<(), Stop> {
-        match tag {
-            0..=11 | 17..=19 | 22 | 0x82 => Ok(()),
-            POINTER => self.pointer(version),
-            TILE => self.tile(),
-            TENSOR_VIEW => self.tensor_view(version),
-            PARTITION_VIEW if version.since(13, 3) => self.partition_view(),
-            PARTITION_VIEW => self.old_partition_view(),
-            FUNC => self.indices().and_then(|()| self.indices()),
-            GATHER_SCATTER_VIEW => self.gather_scatter_view(),
-            STRIDED_VIEW => self.strided_view(),
-            256.. => Err(Stop { number: TYPE_TAG, detail: Detail::WideTag }),
-            _ => Err(stop(TYPE_TAG)),
+    /// The tag and its fields. In a manner that reads on, a tag that cannot be read leaves a row without words, and one
+    /// that is not known stands alone.
+    fn entry(&mut self, version: Version) -> Result<(), Stop> {
+        let mut tag = match self.wire.varint() {
+            Ok(tag) => tag,
+            Err(stop) => return self.manner.over(within(stop)),
+        };
+        if tag > u8::MAX.into() {
+            self.manner.over(Stop { number: TYPE_TAG, detail: Detail::WideTag })?;
+            tag &= u64::from(u8::MAX);
+        }
+        self.words.push(tag);
+        match fields(tag, version) {
+            Some(fields) => self.fields(fields),
+            None => self.manner.over(Stop { number: TYPE_TAG, detail: Detail::TypeEntry }),
         }
     }
 }
 
-/// The words of an entry: its tag and its fields. What is left of it behind them is ignored.
-fn entry(data: &[u8], version: Version) -> Result<Vec<u64>, Stop> {
-    let mut row = Row { wire: Cursor::new(data), words: Vec::new() };
-    let tag = row.varint()?;
-    row.fields(tag, version)?;
-    Ok(row.words)
-}
-
-pub fn table(file: &[u8], payload: Option<Range<usize>>, version: Version) -> Result<Table, Stop> {
-    let mut table = Table::default();
-    entries::table(file, payload, 4, |place| {
-        let row = entry(&file[place], version).map_err(|stop| match stop.detail {
-            Detail::WideTag => stop,
-            _ => Stop { detail: Detail::TypeEntry, ..stop },
-        })?;
-        table.push_counted(&row);
+/// Puts a row for each entry to the table. What is left of an entry behind its fields is ignored.
+pub fn read(
+    file: &[u8],
+    payload: Option<Range<usize>>,
+    version: Version,
+    manner: &mut impl Manner,
+    table: &mut Table,
+) -> Result<(), Stop> {
+    entries::table(file, payload, 4, manner, |place, manner| {
+        let mut row = Row { wire: Cursor::new(&file[place]), words: Vec::new(), manner };
+        row.entry(version)?;
+        table.push_counted(&row.words);
         Ok(())
-    })?;
-    Ok(table)
+    })
 }

@@ -3,17 +3,18 @@
 
 use std::collections::BTreeMap;
 use std::fmt::Write;
+use std::path::Path;
 
 use plain::{Reading, Refusal};
 
-use super::appetite::{appetite, Appetite};
 use super::dice::Dice;
+use super::foretold::{foretell, Outcome};
 use super::judge::{ask, Rust};
 use super::made::{entries, make};
 use super::plan::{Plan, Version};
 use super::types::{entry, TAGS};
-use super::{classes, damage, judge, shown, smallest};
-use crate::tally::{Random, Tally};
+use super::{damage, shown, smallest};
+use crate::tally::{Against, Random, Tally};
 
 const RECORDED: &str = include_str!("../../../boundary/tests/data/answers.txt");
 
@@ -45,13 +46,12 @@ fn line(file: &[u8], reading: &Result<Reading, Refusal>) -> Option<String> {
     let (ours, row, rust) = match reading {
         Ok(_) => ("0".to_owned(), None, ask(file)),
         Err(refusal) => {
-            let appetite = appetite(file, refusal);
-            if let Appetite::Exhausts(_) = appetite {
+            let foretold = foretell(file, refusal);
+            if let Outcome::Exhausts(_) = foretold.outcome {
                 return None;
             }
-            let rust = ask(file);
-            let row = classes::class(refusal, appetite, &rust).map(|(row, _)| row);
-            (format!("{}@{}", refusal.number, refusal.stage), row, rust)
+            let row = foretold.class.map(|(row, ..)| row);
+            (format!("{}@{}", refusal.number, refusal.stage), row, ask(file))
         }
     };
     let row = row.map_or("-".to_owned(), |row| row.to_string());
@@ -129,8 +129,7 @@ fn found_files(dice: &mut Dice) -> Vec<Vec<u8>> {
 }
 
 /// Writes the list anew.
-pub fn write(path: &str) -> std::io::Result<()> {
-    judge::expect_panics();
+pub fn write(path: &Path) -> std::io::Result<()> {
     let mut random = Random::new(SEED);
     let mut dice = Dice::new(&mut random);
     let shortest = smallest::all().into_iter().map(|smallest| smallest.file).collect();
@@ -149,7 +148,7 @@ fn bytes(hex: &str) -> Vec<u8> {
 
 /// Each recorded line is what is said today.
 pub fn compare() -> Tally {
-    let mut tally = Tally::new("the recorded answers");
+    let mut tally = Tally::new("the recorded answers", Against::Rust);
     for recorded in RECORDED.lines().filter(|line| !line.starts_with('#')) {
         let file = bytes(recorded.split(' ').next().unwrap_or(""));
         let today = line(&file, &plain::read(&file));

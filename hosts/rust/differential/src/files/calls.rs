@@ -5,7 +5,7 @@ use boundary::{Answer, ABSENT, FULL};
 use plain::{Reading, Refusal};
 
 use super::shown;
-use crate::tally::{Random, Tally};
+use crate::tally::{Against, Random, Report, Tally};
 
 const UNTOUCHED: u8 = 0xA5;
 
@@ -69,11 +69,11 @@ fn wanted(reading: &Result<Reading, Refusal>) -> Answer {
 impl Calls {
     pub fn new() -> Self {
         Self {
-            measure: Tally::new("measure"),
-            read: Tally::new("read"),
-            small: Tally::new("read, a store too small"),
-            views: Tally::new("string, constant, body"),
-            sections: Tally::new("section"),
+            measure: Tally::new("measure", Against::Plain),
+            read: Tally::new("read", Against::Plain),
+            small: Tally::new("read, a store too small", Against::Plain),
+            views: Tally::new("string, constant, body", Against::Plain),
+            sections: Tally::new("section", Against::Plain),
             rooms: 0,
             outside: 0,
         }
@@ -181,7 +181,9 @@ impl Calls {
         self.read(random, file, reading)
     }
 
-    pub fn finish(self, add: &mut impl FnMut(Tally)) {
-        [self.measure, self.read, self.small, self.views, self.sections].into_iter().for_each(add);
+    pub fn finish(self, report: &mut Report) {
+        [self.measure, self.read, self.small, self.views, self.sections]
+            .into_iter()
+            .for_each(|tally| report.add(tally));
     }
 }

@@ -1,9 +1,9 @@
 //! What the accepted files had: every type tag in every class of versions, every debug tag, and sizes.
 
-use std::collections::BTreeMap;
+use std::collections::{BTreeMap, BTreeSet};
 
 use super::types::TAGS;
-use crate::tally::Tally;
+use crate::tally::{Against, Tally};
 
 const CLASSES: [&str; 3] = ["below 13.3", "from 13.3", "from 13.4"];
 const DEBUG_TAGS: u64 = 7;
@@ -43,9 +43,15 @@ impl Coverage {
         }
     }
 
+    /// How many tags of types, and of debug attributes, were met.
+    pub fn kinds(&self) -> (usize, usize) {
+        let tags: BTreeSet<u64> = self.types.keys().map(|(tag, _)| *tag).collect();
+        (tags.len(), self.attributes.len())
+    }
+
     /// Prints the rarest of each, which has to be there.
     pub fn finish(self) -> Tally {
-        let mut tally = Tally::new("every kind is accepted");
+        let mut tally = Tally::new("every kind is accepted", Against::Demand);
         let mut rarest = u64::MAX;
         for (tag, class) in TAGS.iter().flat_map(|&tag| (0..CLASSES.len()).map(move |class| (tag, class))) {
             let count = self.types.get(&(tag, class)).copied().unwrap_or(0);

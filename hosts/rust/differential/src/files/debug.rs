@@ -2,7 +2,7 @@
 
 use super::dice::{Dice, Freedom};
 use super::made::{index, Table};
-use super::wire::Wire;
+use super::wire::{Wire, RARE};
 
 /// How many fields a tag has: Unknown, DICompileUnit, DIFile, DILexicalBlock, DILoc, DISubprogram, CallSite.
 const FIELDS: [usize; 7] = [0, 1, 2, 4, 4, 6, 2];
@@ -40,7 +40,8 @@ fn lists(dice: &mut Dice, rows: u64) -> (Vec<u64>, Vec<u64>, Table) {
     }
     for _ in 0..rows {
         starts.push(ids.len() as u64);
-        let list: Vec<u64> = (0..dice.below(4)).map(|_| index(dice, 9)).collect();
+        let size = if dice.takes(Freedom::LongDebugList, RARE) { 200 } else { dice.below(4) };
+        let list: Vec<u64> = (0..size).map(|_| index(dice, 9)).collect();
         table.words.push(list.len() as u64);
         table.words.extend_from_slice(&list);
         ids.extend(list);
@@ -59,6 +60,7 @@ pub fn tables(dice: &mut Dice, attributes: u64, lists_rows: u64, strings: u64) -
         data.byte(dice.word() as u8);
         data.some_bytes(dice, 3);
     }
+    data.long_run(dice, Freedom::LongGap);
     for _ in 0..attributes {
         starts.push(data.0.len() as u64);
         words.extend(attribute(dice, &mut data, strings));

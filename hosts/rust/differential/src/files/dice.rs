@@ -2,11 +2,11 @@
 
 use std::ops::{Deref, DerefMut};
 
-use crate::tally::{Random, Tally};
+use crate::tally::{Against, Random, Tally};
 
 macro_rules! freedoms {
     ($($name:ident = $what:literal,)*) => {
-        /// What document 01's "The container" leaves to the writer of a file.
+        /// What document 01's "The container" leaves to the writer of a file, and faults that a file may have.
         #[derive(Clone, Copy)]
         pub enum Freedom { $($name),* }
 
@@ -22,16 +22,32 @@ freedoms! {
     LeftInEntry = "bytes left in an entry",
     LeftInPayload = "bytes behind a payload's last item",
     EmptyTable = "a count of 0 with bytes behind it",
+    OneZero = "a payload of exactly one zero byte",
     AbsentSection = "an absent section",
     Aligned = "an alignment that pads",
     OddAlignment = "an alignment that is no power of two",
     SmallAlignment = "an alignment of 0 or 1",
-    Repeated = "an earlier section with the same id",
+    Alignment256 = "an alignment of 256",
+    Alignment260 = "an alignment of 260",
+    FarAlignment = "an alignment of 2^32, which no file has room for",
+    FarthestAlignment = "an alignment of 2^64 - 1, which no file has room for",
+    Repeated = "an earlier section with the same id and any bytes",
+    RepeatedWhole = "an earlier section with the same id that is valid itself",
     UnknownId = "a section with an unknown id",
     EndWithTopBit = "an end marker with its top bit",
     AfterEnd = "bytes after the end marker",
+    LongGap = "a gap of hundreds of bytes",
+    LongLeft = "hundreds of bytes behind a payload's last item",
+    LongTail = "hundreds of bytes after the end marker",
     Producer = "a producer",
     InvalidUtf8 = "a string that is no UTF-8",
+    LargeConstant = "a constant of 16,384 to 70,000 bytes of any value",
+    LongTypeList = "a list of 200 in a type",
+    LongDebugList = "a debug list of 200",
+    LaterMinor = "a version from 13.5 to 13.255",
+    LaterMajor = "version 14.0",
+    TwoFaults = "two faults at once",
+    ThreeFaults = "three faults at once",
 }
 
 /// A source of random numbers that knows which freedoms were taken.
@@ -58,8 +74,8 @@ impl<'r> Dice<'r> {
 
     /// Prints how often each was taken; each has to have been.
     pub fn finish(self) -> Tally {
-        let mut tally = Tally::new("every freedom is taken");
-        println!("  freedoms of the layout, and how often they were taken:");
+        let mut tally = Tally::new("every freedom is taken", Against::Demand);
+        println!("  freedoms, and how often they were taken:");
         for (what, taken) in FREEDOMS.iter().zip(self.taken) {
             println!("    {what}: {taken}");
             tally.case(taken > 0, [0; 3], || format!("no file has {what}"));

@@ -1,7 +1,8 @@
 //! What decoder.rs makes of a file: a text, an error, or a panic.
 
 use std::cell::Cell;
-use std::panic::{catch_unwind, set_hook, take_hook};
+use std::panic::{catch_unwind, set_hook, take_hook, AssertUnwindSafe};
+use std::sync::OnceLock;
 
 use oracle::bytecode::decoder::{decode_bytecode, window};
 use oracle::Error;
@@ -11,7 +12,7 @@ use oracle::Error;
 pub enum Fault {
     /// A slice is taken that is not inside the data.
     Slice,
-    /// A sum wraps. Without overflow checks it goes on, and taking the slice breaks.
+    /// A sum wraps, which is seen where overflow checks are on.
     Sum,
     /// A vector is reserved for more numbers than there can be.
     Capacity,
@@ -30,7 +31,7 @@ thread_local! {
     static ASKING: Cell<bool> = const { Cell::new(false) };
 }
 
-/// Keeps panics quiet while decoder.rs is asked; all others stay loud.
+/// Keeps panics quiet while the Rust is asked; all others stay loud.
 pub fn expect_panics() {
     let loud = take_hook();
     set_hook(Box::new(move |info| {
@@ -64,11 +65,31 @@ fn fault(message: &str) -> Fault {
     }
 }
 
-pub fn ask(file: &[u8]) -> Rust {
+/// Does what may panic.
+pub fn quietly<T>(work: impl FnOnce() -> T) -> std::thread::Result<T> {
     ASKING.set(true);
-    let result = catch_unwind(|| decode_bytecode(file));
+    let result = catch_unwind(AssertUnwindSafe(work));
     ASKING.set(false);
-    match result {
+    result
+}
+
+/// Whether the Rust was compiled with overflow checks.
+pub fn sums_are_checked() -> bool {
+    static CHECKED: OnceLock<bool> = OnceLock::new();
+    *CHECKED.get_or_init(|| quietly(|| window::Reader::at(&[], 1).remaining()).is_err())
+}
+
+/// How decoder.rs breaks where the end of a run of bytes wraps: at the sum, or where the slice is taken.
+pub fn wrapping_end() -> Fault {
+    if sums_are_checked() {
+        Fault::Sum
+    } else {
+        Fault::Slice
+    }
+}
+
+pub fn ask(file: &[u8]) -> Rust {
+    match quietly(|| decode_bytecode(file)) {
         Ok(Ok(text)) => Rust::Text(text),
         Ok(Err(error)) => numbered(error),
         Err(payload) => {

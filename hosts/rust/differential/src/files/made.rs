@@ -2,7 +2,7 @@
 
 use super::dice::{Dice, Freedom};
 use super::plan::{version, Plan, Version};
-use super::wire::Wire;
+use super::wire::{Wire, RARE};
 use super::{debug, types};
 
 /// A file to be laid down, and what it says.
@@ -43,12 +43,23 @@ fn string(dice: &mut Dice) -> Vec<u8> {
     string.0
 }
 
+/// Any bytes: few, or now and then many.
+fn constant(dice: &mut Dice) -> Vec<u8> {
+    let mut constant = Wire::default();
+    let size = if dice.takes(Freedom::LargeConstant, RARE) { 16_384 + dice.below(53_617) } else { dice.below(20) };
+    constant.any_bytes(dice, size);
+    constant.0
+}
+
 /// A payload of entries that stand by their starts. The first may start behind a gap. Without entries the section is
 /// absent, or has a count and bytes behind it.
 pub fn entries(dice: &mut Dice, width: usize, entries: &[Vec<u8>]) -> Option<Vec<u8>> {
     let mut wire = Wire::default();
     if entries.is_empty() && dice.takes(Freedom::AbsentSection, 2) {
         return None;
+    }
+    if entries.is_empty() && dice.one_in(4) {
+        return Some(vec![0]);
     }
     wire.varint(dice, entries.len() as u64);
     if entries.is_empty() {
@@ -63,6 +74,7 @@ pub fn entries(dice: &mut Dice, width: usize, entries: &[Vec<u8>]) -> Option<Vec
         data.byte(dice.word() as u8);
         data.some_bytes(dice, 4);
     }
+    data.long_run(dice, Freedom::LongGap);
     for entry in entries {
         wire.fixed(data.0.len() as u64, width);
         data.bytes(entry);
@@ -101,6 +113,7 @@ fn items(dice: &mut Dice, rows: u64, mut item: impl FnMut(&mut Dice, &mut Wire) 
         wire.byte(dice.word() as u8);
         wire.some_bytes(dice, 3);
     }
+    wire.long_run(dice, Freedom::LongLeft);
     Table { payload: Some(wire.0), words, rows }
 }
 
@@ -168,20 +181,18 @@ fn sheet(version: Version, producer: u64, pool: &[u8], tables: &[Table; 7]) -> V
 }
 
 /// Puts the sections in any order.
-fn shuffled(dice: &mut Dice, mut sections: Vec<(u8, Vec<u8>)>) -> Vec<(u8, Vec<u8>)> {
+fn shuffle(dice: &mut Dice, sections: &mut [(u8, Vec<u8>)]) {
     for i in (1..sections.len()).rev() {
         sections.swap(i, dice.below(i as u64 + 1) as usize);
     }
-    sections
 }
 
-/// A file whose tables have fewer than `most` rows each, and often none.
-pub fn make(dice: &mut Dice, most: u64) -> Made {
-    let version = version(dice);
+/// A file whose tables have fewer than `most` rows each, and often none, with its sections in reading order.
+fn tables(dice: &mut Dice, version: Version, most: u64) -> Made {
     let mut rows = || if dice.one_in(3) { 0 } else { dice.below(most) };
     let counts: [u64; 7] = std::array::from_fn(|_| rows());
     let strings: Vec<Vec<u8>> = (0..counts[0]).map(|_| string(dice)).collect();
-    let constants: Vec<Vec<u8>> = (0..counts[2]).map(|_| string(dice)).collect();
+    let constants: Vec<Vec<u8>> = (0..counts[2]).map(|_| constant(dice)).collect();
     let string_table = byte_entries(dice, 4, &strings);
     let (producer, producer_word) = producer(dice, counts[0]);
     let types = type_table(dice, version, counts[1]);
@@ -195,8 +206,21 @@ pub fn make(dice: &mut Dice, most: u64) -> Made {
     let words = sheet(version, producer_word, &pool, &tables);
     let [string, types, constant, global, func, debug, _] = tables.map(|table| table.payload);
     let payloads = [(1, string), (7, producer), (5, types), (4, constant), (6, global), (2, func), (3, debug)];
-    let present = payloads.into_iter().filter_map(|(id, payload)| Some((id, payload?))).collect();
-    let mut plan = Plan { version, sections: shuffled(dice, present) };
+    let sections = payloads.into_iter().filter_map(|(id, payload)| Some((id, payload?))).collect();
+    Made { plan: Plan { version, sections }, words, pool }
+}
+
+/// A file whose tables have fewer than `most` rows each, with sections that do not count among those that do.
+pub fn make(dice: &mut Dice, most: u64) -> Made {
+    let version = version(dice);
+    let mut made = tables(dice, version, most);
+    let plan = &mut made.plan;
+    plan.sections.iter().filter(|(_, payload)| *payload == [0]).for_each(|_| dice.took(Freedom::OneZero));
+    shuffle(dice, &mut plan.sections);
+    if dice.one_in(16) {
+        let others = tables(dice, version, 4).plan.sections;
+        others.into_iter().for_each(|section| plan.add_earlier(dice, section));
+    }
     plan.add_others(dice);
-    Made { plan, words, pool }
+    made
 }

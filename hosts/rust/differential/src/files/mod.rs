@@ -3,45 +3,45 @@
 
 mod answers;
 mod apart;
-mod appetite;
 mod calls;
-mod classes;
 mod counts;
 mod coverage;
 mod damage;
 mod debug;
 mod dice;
+mod faults;
+mod foretold;
 mod judge;
 mod made;
 mod plan;
 mod smallest;
+mod texts;
 mod types;
 mod wire;
 
 pub use answers::write as write_answers;
-pub use calls::Stores;
+pub use calls::{Stores, Tables};
 pub use coverage::Coverage;
 pub use dice::Dice;
-pub use judge::{ask, Rust};
+pub use judge::{ask, expect_panics, quietly, sums_are_checked, wrapping_end, Rust};
 pub use made::{make, Made};
 pub use smallest::{all as smallest, invalid_utf8};
+pub use texts::{Compared, Texts};
 
-use dump::Present;
+use boundary::Answer;
 use plain::Refusal;
 
-use crate::tally::{Random, Tally};
-use appetite::{appetite, Appetite};
-use calls::{Calls, Tables};
+use crate::memory::exhausts;
+use crate::tally::{Against, Random, Report, Tally};
+use calls::Calls;
 use counts::Counts;
+use foretold::{foretell, Outcome};
 
 const FUNC: u64 = 2;
 const DEBUG: u64 = 3;
 
 /// Files that are made and not damaged; each has to be accepted. Some damaged copies are accepted too.
 const MADE_FILES: u64 = 174_000;
-const LEAST_ACCEPTED: u64 = 200_000;
-/// A text that is longer is not asked for.
-const MOST_TEXT: usize = 1 << 18;
 const MOST_SHOWN: usize = 1 << 10;
 
 /// A file in hex; of a long one its first bytes.
@@ -54,95 +54,109 @@ pub fn shown(file: &[u8]) -> String {
     }
 }
 
-/// decoder.rs's text, from what the library says of a file that it accepts.
-pub fn text(file: &[u8], (words, pool): &Tables) -> Option<String> {
-    let present = |id| boundary::section(file, id).refusal == 0;
-    dump::text(words, pool, Present { func: present(FUNC), debug: present(DEBUG) }, MOST_TEXT).ok()
-}
-
-struct Run {
+/// The comparison of files, one by one.
+pub struct Run {
     calls: Calls,
-    meant: Tally,
-    texts: Tally,
+    texts: Texts,
     refusals: Tally,
     counts: Counts,
     coverage: Coverage,
 }
 
 impl Run {
-    fn new() -> Self {
+    pub fn new() -> Self {
         Self {
             calls: Calls::new(),
-            meant: Tally::new("the tables that were meant"),
-            texts: Tally::new("the text of decoder.rs"),
-            refusals: Tally::new("refusals of decoder.rs"),
+            texts: Texts::new(),
+            refusals: Tally::new("refusals of decoder.rs", Against::Rust),
             counts: Counts::default(),
             coverage: Coverage::default(),
         }
     }
 
-    fn accepted(&mut self, file: &[u8], tables: &Tables) {
-        let Some(text) = text(file, tables) else {
-            return self.counts.apart("the names of types", file);
-        };
-        let rust = ask(file);
-        let equal = matches!(&rust, Rust::Text(theirs) if *theirs == text);
-        if equal {
-            self.counts.accepted += 1;
-            self.coverage.add(file, &tables.0);
+    /// Gives the text, if it is decoder.rs's too.
+    fn accepted(&mut self, file: &[u8], tables: &Tables) -> Option<String> {
+        match self.texts.compare(file, tables) {
+            Compared::Equal(text) => {
+                self.counts.accepted += 1;
+                self.coverage.add(file, &tables.0);
+                return Some(text);
+            }
+            Compared::Exhausts => self.counts.apart("the names of types", file),
+            Compared::Differs => {}
         }
-        self.texts.case(equal, [file.len() as u64, 0, 0], || {
-            format!("{}: from our tables {text:?}, and decoder.rs says {rust:?}", shown(file))
-        });
+        None
     }
 
+    /// decoder.rs does as was foretold: it gives the error with our number, or parts by an entry whose cause was met.
     fn refused(&mut self, file: &[u8], refusal: &Refusal) {
-        self.counts.refused(refusal.number, refusal.stage, 1);
-        let appetite = appetite(file, refusal);
-        if let Appetite::Exhausts(what) = appetite {
+        let size = [file.len() as u64, 0, 0];
+        let foretold = foretell(file, refusal);
+        if let Outcome::Exhausts(what) = foretold.outcome {
+            let exhausts = exhausts(|| drop(ask(file)));
+            self.refusals.case(exhausts, size, || {
+                format!("{}: {refusal:?}, and decoder.rs has memory enough for {what}", shown(file))
+            });
             return self.counts.apart(what, file);
         }
         let rust = ask(file);
-        let class = classes::class(refusal, appetite, &rust);
-        if let Some(class) = class {
+        self.counts.refused(refusal.number, refusal.stage, 1);
+        if let Some(class) = foretold.class {
             self.counts.class(class, file);
         }
-        let equal = class.is_some() || matches!(rust, Rust::Error(number, _) if number == refusal.number);
-        self.refusals.case(equal, [file.len() as u64, 0, 0], || {
-            format!("{}: {refusal:?}, and decoder.rs says {rust:?}", shown(file))
+        let alike = foretold.class.is_some() || matches!(rust, Rust::Error(number, _) if number == refusal.number);
+        self.refusals.case(alike && foretold.outcome.is(&rust), size, || {
+            format!("{}: {refusal:?}, decoder.rs says {rust:?}, and was foretold {foretold:?}", shown(file))
         });
     }
 
-    /// Compares all sides on one file. Gives the tables of a file that is accepted.
-    fn file(&mut self, random: &mut Random, file: &[u8]) -> Option<Tables> {
+    /// Compares all sides on one file. Gives the tables of a file that is accepted, and its text.
+    pub fn file(&mut self, random: &mut Random, file: &[u8]) -> Option<(Tables, Option<String>)> {
+        self.counts.files += 1;
         let reading = plain::read(file);
         let tables = self.calls.compare(random, file, &reading);
-        match (&tables, &reading) {
-            (Some(tables), _) => self.accepted(file, tables),
-            (None, Err(refusal)) => self.refused(file, refusal),
+        match (tables, &reading) {
+            (Some(tables), _) => {
+                let text = self.accepted(file, &tables);
+                Some((tables, text))
+            }
+            (None, Err(refusal)) => {
+                self.refused(file, refusal);
+                None
+            }
             // The tally of `read` has the difference.
-            (None, Ok(_)) => {}
+            (None, Ok(_)) => None,
         }
-        tables
     }
 
     /// A file that was made from tables gives those tables.
-    fn made(&mut self, dice: &mut Dice, made: &Made) {
+    fn made(&mut self, dice: &mut Dice, made: &Made, meant: &mut Tally) {
         let file = made.plan.lay(dice);
-        let tables = self.file(dice, &file);
+        let tables = self.file(dice, &file).map(|(tables, _)| tables);
         let equal = matches!(&tables, Some((words, pool)) if (words, pool) == (&made.words, &made.pool));
-        self.meant.case(equal, [file.len() as u64, 0, 0], || {
+        meant.case(equal, [file.len() as u64, 0, 0], || {
             format!("{}: {tables:?}, and {:?} and {:?} were meant", shown(&file), made.words, made.pool)
         });
     }
 
-    fn finish(mut self, add: &mut impl FnMut(Tally)) {
+    /// A file with faults is refused for the first of them in reading order.
+    fn faulty(&mut self, dice: &mut Dice, made: &Made, meant: &mut Tally) {
+        let (file, first) = faults::faulty(dice, made);
+        self.file(dice, &file);
+        let answer = boundary::measure(&file);
+        let wanted = Answer::refused_at(first.number, first.stage);
+        meant.case(answer == wanted, [file.len() as u64, 0, 0], || {
+            format!("{}: {answer:?}, and {wanted:?} was meant", shown(&file))
+        });
+    }
+
+    /// Prints the tallies. Gives what this run came upon.
+    pub fn finish(mut self, report: &mut Report) -> (Counts, Coverage) {
         self.counts.refused(boundary::FULL, boundary::STAGE_CALL, self.calls.rooms);
         self.counts.refused(boundary::ABSENT, boundary::STAGE_CALL, self.calls.outside);
-        self.calls.finish(add);
-        [self.meant, self.texts, self.refusals].into_iter().for_each(&mut *add);
-        self.counts.finish(LEAST_ACCEPTED, add);
-        add(self.coverage.finish());
+        self.calls.finish(report);
+        [self.texts.finish(), self.refusals].into_iter().for_each(|tally| report.add(tally));
+        (self.counts, self.coverage)
     }
 }
 
@@ -155,22 +169,29 @@ pub fn most_rows(dice: &mut Dice, i: u64) -> u64 {
     }
 }
 
-pub fn compare(random: &mut Random, add: &mut impl FnMut(Tally)) {
+pub fn compare(random: &mut Random, report: &mut Report) {
     println!("files:");
-    judge::expect_panics();
     let mut run = Run::new();
+    let mut meant = Tally::new("what was meant", Against::Known);
     let mut dice = Dice::new(random);
-    for i in 0..MADE_FILES {
+    for i in 0..report.share_of(MADE_FILES) {
         let most = most_rows(&mut dice, i);
         let made = made::make(&mut dice, most);
-        run.made(&mut dice, &made);
-        if dice.one_in(2) {
-            let file = damage::damaged(&mut dice, &made);
-            run.file(&mut dice, &file);
+        run.made(&mut dice, &made, &mut meant);
+        match dice.below(8) {
+            0..=3 => {
+                let file = damage::damaged(&mut dice, &made);
+                run.file(&mut dice, &file);
+            }
+            4 => run.faulty(&mut dice, &made, &mut meant),
+            _ => {}
         }
     }
     apart::compare(&mut dice, &mut run);
-    run.finish(add);
-    add(dice.finish());
-    add(answers::compare());
+    report.add(meant);
+    let (counts, coverage) = run.finish(report);
+    counts.finish(report);
+    report.demand(coverage.finish());
+    report.demand(dice.finish());
+    report.add(answers::compare());
 }

@@ -2,7 +2,7 @@
 
 use super::dice::{Dice, Freedom};
 use super::plan::Version;
-use super::wire::Wire;
+use super::wire::{Wire, RARE};
 
 /// All tags: sixteen scalars and Token, then the kinds that have fields.
 pub const TAGS: [u64; 24] = [0, 1, 2, 3, 4, 5, 6, 7, 8, 9, 10, 11, 17, 18, 19, 22, 0x82, 12, 13, 14, 15, 16, 20, 21];
@@ -32,7 +32,11 @@ impl Entry<'_, '_> {
     }
 
     fn count(&mut self) -> u64 {
-        let count = if self.dice.one_in(4) { 0 } else { self.dice.below(4) };
+        let count = match self.dice.below(4) {
+            _ if self.dice.takes(Freedom::LongTypeList, RARE) => 200,
+            0 => 0,
+            _ => self.dice.below(4),
+        };
         self.varint(count);
         count
     }

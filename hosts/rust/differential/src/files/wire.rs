@@ -2,6 +2,9 @@
 
 use super::dice::{Dice, Freedom};
 
+/// What makes a file long is done once in so many times.
+pub const RARE: u64 = 400;
+
 /// The byte that fills paddings.
 pub const FILL: u8 = 0xCB;
 
@@ -20,8 +23,24 @@ impl Wire {
 
     /// Up to `most` bytes of any value.
     pub fn some_bytes(&mut self, dice: &mut Dice, most: u64) {
-        for _ in 0..dice.below(most + 1) {
-            self.byte(dice.word() as u8);
+        let size = dice.below(most + 1);
+        self.any_bytes(dice, size);
+    }
+
+    /// So many bytes of any value.
+    pub fn any_bytes(&mut self, dice: &mut Dice, size: u64) {
+        let end = self.0.len() + size as usize;
+        while self.0.len() < end {
+            let word = dice.word().to_le_bytes();
+            self.bytes(&word[..word.len().min(end - self.0.len())]);
+        }
+    }
+
+    /// Hundreds of bytes of any value, if that freedom is taken.
+    pub fn long_run(&mut self, dice: &mut Dice, freedom: Freedom) {
+        if dice.takes(freedom, RARE) {
+            let size = 100 + dice.below(900);
+            self.any_bytes(dice, size);
         }
     }
 

@@ -6,8 +6,8 @@ use plain::Refusal;
 
 use super::counts::Counts;
 use super::handed::Handed;
-use crate::files::{ask, shown, text, Coverage, Rust, Stores};
-use crate::tally::{Random, Tally};
+use crate::files::{shown, Compared, Coverage, Stores, Texts};
+use crate::tally::{Against, Random, Report, Tally};
 
 const UNTOUCHED: u8 = 0xA5;
 /// Bytes behind the output that are not lent.
@@ -42,7 +42,7 @@ pub struct Calls {
     write: Tally,
     small: Tally,
     back: Tally,
-    texts: Tally,
+    texts: Texts,
     counts: Counts,
     coverage: Coverage,
 }
@@ -50,11 +50,11 @@ pub struct Calls {
 impl Calls {
     pub fn new() -> Self {
         Self {
-            image: Tally::new("image"),
-            write: Tally::new("write"),
-            small: Tally::new("write, an output too small"),
-            back: Tally::new("what was written, read"),
-            texts: Tally::new("the text of decoder.rs"),
+            image: Tally::new("image", Against::Plain),
+            write: Tally::new("write", Against::Plain),
+            small: Tally::new("write, an output too small", Against::Plain),
+            back: Tally::new("what was written, read", Against::Known),
+            texts: Texts::new(),
             counts: Counts::default(),
             coverage: Coverage::default(),
         }
@@ -106,17 +106,12 @@ impl Calls {
         self.back.case(same && answer == Answer::accepted(words as u64, pool as u64), [words as u64, 0, 0], || {
             format!("{}: {} reads {answer:?} and {tables:?}", handed.described(), shown(file))
         });
-        if !same {
-            return;
+        if same {
+            match self.texts.compare(file, &tables) {
+                Compared::Exhausts => self.counts.text_too_long(),
+                Compared::Equal(_) | Compared::Differs => {}
+            }
         }
-        let Some(text) = text(file, &tables) else {
-            return self.counts.text_too_long();
-        };
-        let rust = ask(file);
-        let equal = matches!(&rust, Rust::Text(theirs) if *theirs == text);
-        self.texts.case(equal, [file.len() as u64, 0, 0], || {
-            format!("{}: from the sheet {text:?}, and decoder.rs says {rust:?}", shown(file))
-        });
     }
 
     /// Outputs that are a little larger than they have to be, and smaller; now and then of every size.
@@ -144,8 +139,8 @@ impl Calls {
         Some(file)
     }
 
-    /// All calls on a sheet that is well-formed.
-    pub fn well_formed(&mut self, random: &mut Random, handed: &Handed) {
+    /// All calls on a sheet that is well-formed. Gives its file.
+    pub fn well_formed(&mut self, random: &mut Random, handed: &Handed) -> Option<Vec<u8>> {
         let file = self.any(random, handed);
         if let Some(file) = &file {
             self.counts.well_formed += 1;
@@ -154,6 +149,7 @@ impl Calls {
         self.write.case(file.is_some(), [handed.words.len() as u64, 0, 0], || {
             format!("{}: well-formed, and the plain writer refuses it", handed.described())
         });
+        file
     }
 
     /// `image` of a sheet that is refused, and too large to be described.
@@ -176,9 +172,11 @@ impl Calls {
         });
     }
 
-    pub fn finish(self, add: &mut impl FnMut(Tally)) {
-        [self.image, self.write, self.small, self.back, self.texts].into_iter().for_each(&mut *add);
-        add(self.counts.finish());
-        add(self.coverage.finish());
+    /// Prints the tallies. Gives what this run came upon.
+    pub fn finish(self, report: &mut Report) -> (Counts, Coverage) {
+        [self.image, self.write, self.small, self.back, self.texts.finish()]
+            .into_iter()
+            .for_each(|tally| report.add(tally));
+        (self.counts, self.coverage)
     }
 }

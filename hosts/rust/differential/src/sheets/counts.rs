@@ -2,7 +2,7 @@
 
 use std::collections::BTreeMap;
 
-use crate::tally::Tally;
+use crate::tally::{Against, Tally};
 
 const LEAST_WELL_FORMED: u64 = 50_000;
 const LEAST_REFUSED: u64 = 100_000;
@@ -34,7 +34,7 @@ impl Counts {
     }
 
     pub fn finish(self) -> Tally {
-        let mut tally = Tally::new("every refusal occurs");
+        let mut tally = Tally::new("every refusal occurs", Against::Demand);
         println!("  well-formed sheets: {}", self.well_formed);
         println!("  answers, as number and how often; 0 is an acceptance:");
         for (call, numbers, counts) in [("image", OF_IMAGE, &self.image), ("write", OF_WRITE, &self.write)] {
@@ -43,7 +43,9 @@ impl Counts {
             let met: Vec<u64> = counts.keys().copied().collect();
             tally.case(met == numbers, [0; 3], || format!("{call} met {met:?}, and {numbers:?} was expected"));
         }
-        println!("  files whose text is too long for decoder.rs: {}", self.long_texts);
+        let written = self.write.get(&0).copied().unwrap_or(0);
+        println!("  files whose text is too long for decoder.rs, which was asked: {}", self.long_texts);
+        tally.case(100 * self.long_texts < written, [0; 3], || format!("{} texts are too long", self.long_texts));
         let refused = self.write.get(&boundary::SHEET).copied().unwrap_or(0);
         let enough = self.well_formed >= LEAST_WELL_FORMED && refused >= LEAST_REFUSED;
         tally.case(enough, [0; 3], || format!("only {} well-formed, {refused} refused", self.well_formed));

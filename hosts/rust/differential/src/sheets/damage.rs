@@ -2,7 +2,7 @@
 
 use super::handed::{Handed, ATTRIBUTES, FUNCTIONS, GLOBALS, TYPES};
 use crate::files::Dice;
-use crate::tally::Tally;
+use crate::tally::{Against, Tally};
 
 /// Hurts a sheet that is well-formed, if it has what the wound needs.
 type Wound = fn(&mut Dice, &mut Handed) -> Option<()>;
@@ -317,7 +317,7 @@ impl Wounds {
     }
 
     pub fn finish(self) -> Tally {
-        let mut tally = Tally::new("every wound is refused");
+        let mut tally = Tally::new("every wound is refused", Against::Demand);
         println!("  wounds, how often they were refused, and how often what they left was well-formed:");
         for ((what, _), [refused, well_formed]) in WOUNDS.iter().zip(self.0) {
             println!("    {what}: {refused}, {well_formed}");

@@ -8,20 +8,20 @@ mod damage;
 mod handed;
 
 use crate::files::{make, most_rows, Dice};
-use crate::tally::{Random, Tally};
-use calls::Calls;
+use crate::tally::{Random, Report};
+pub use calls::Calls;
 use damage::{Wounds, WOUNDS};
-use handed::Handed;
+pub use handed::Handed;
 
 /// Sheets that are well-formed, and how many damaged copies are made of each.
 const MADE_SHEETS: u64 = 60_000;
 const COPIES: u64 = 2;
 
-pub fn compare(random: &mut Random, add: &mut impl FnMut(Tally)) {
+pub fn compare(random: &mut Random, report: &mut Report) {
     println!("sheets:");
     let (mut calls, mut wounds) = (Calls::new(), Wounds::new());
     let mut dice = Dice::new(random);
-    for i in 0..MADE_SHEETS {
+    for i in 0..report.share_of(MADE_SHEETS) {
         let most = most_rows(&mut dice, i);
         let whole = Handed::of(make(&mut dice, most));
         calls.well_formed(&mut dice, &whole);
@@ -32,6 +32,8 @@ pub fn compare(random: &mut Random, add: &mut impl FnMut(Tally)) {
         }
     }
     apart::compare(&mut dice, &mut calls);
-    calls.finish(add);
-    add(wounds.finish());
+    let (counts, coverage) = calls.finish(report);
+    report.demand(counts.finish());
+    report.demand(coverage.finish());
+    report.demand(wounds.finish());
 }

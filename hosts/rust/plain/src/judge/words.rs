@@ -33,13 +33,6 @@ impl<'a> Words<'a> {
         Ok(word)
     }
 
-    /// A word that is 0 unless it is there on the wire.
-    pub fn only_if(&mut self, there: bool) -> Result<u64, Stop> {
-        let word = self.one()?;
-        require(there || word == 0)?;
-        Ok(word)
-    }
-
     /// A count and as many numbers.
     pub fn list(&mut self, bits: u32) -> Result<(), Stop> {
         let count = self.one()?;
@@ -50,10 +43,10 @@ impl<'a> Words<'a> {
         Ok(())
     }
 
-    /// The byte that is there if bit 0 of the flags is set.
-    pub fn byte_if(&mut self, flags: u64) -> Result<(), Stop> {
-        let byte = self.only_if(flags & 1 != 0)?;
-        require(byte < 256)
+    /// A last field of so many bits, which is 0 unless bit 0 of the flags is set.
+    pub fn last(&mut self, flags: u64, bits: u32) -> Result<(), Stop> {
+        let word = self.fitting(bits)?;
+        require(flags & 1 != 0 || word == 0)
     }
 
     pub fn end(&self) -> Result<(), Stop> {
