@@ -83,6 +83,7 @@ command: build/tikomuci
 cpp-tests: build/all_tests build/tikomuci
 	$(CXX) -std=c++11 $(WARNINGS) -fsyntax-only -x c++ include/tikomuci.h
 	for standard in c++17 c++20; do hosts/cpp/tests/must-not-compile $(CXX) -std=$$standard; done
+	hosts/cpp/tests/abi $(LIBRARY) $(CC) $(CXX)
 	hosts/cpp/tests/readme $(LIBRARY) -- $(CXX) -std=c++17 -O2 $(WARNINGS)
 	tools/timed "C++ tests" build/all_tests
 	tools/timed "command tests" command/tests build/tikomuci

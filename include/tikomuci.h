@@ -78,11 +78,25 @@ TIKOMUCI_STATIC_ASSERT(offsetof(tikomuci_answer, second) == 24, the_second_numbe
 /*
  * The number of the interface between a host's objects and the archive: what the calls take, and how an answer lies in
  * memory. It becomes another one when an object that was compiled before would misread an answer. tikomuci_abi() is the
- * archive's, and there is a call that is named after the number.
+ * archive's. There is a call that is named after the number, and an object that includes this header refers to it, so
+ * that it does not link with an archive of another number. An object that makes no call, and is linked without the
+ * archive, says so: #define TIKOMUCI_NO_ABI_REFERENCE before it includes the header.
  */
 #define TIKOMUCI_ABI 1
 TIKOMUCI_CALL uint64_t tikomuci_abi(void) TIKOMUCI_NOEXCEPT;
 TIKOMUCI_CALL uint64_t tikomuci_abi_1(void) TIKOMUCI_NOEXCEPT;
+
+#if defined(__GNUC__) && !defined(TIKOMUCI_NO_ABI_REFERENCE)
+#if defined(__has_attribute)
+#if __has_attribute(retain)
+#define TIKOMUCI_KEPT __attribute__((used, retain))
+#endif
+#endif
+#ifndef TIKOMUCI_KEPT
+#define TIKOMUCI_KEPT __attribute__((used))
+#endif
+static uint64_t (*const tikomuci_abi_reference)(void) TIKOMUCI_KEPT = tikomuci_abi_1;
+#endif
 
 /* The limits: of a file that is read or written, and of a sheet and a pool that are handed to the writer. */
 #define TIKOMUCI_MAX_FILE_BYTES UINT64_C(1073741824)

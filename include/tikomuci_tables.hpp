@@ -83,29 +83,31 @@ enum class DebugTag : std::uint8_t {
 
 namespace detail {
 
-inline constexpr std::array<std::string_view, 23> TYPE_NAMES = {"i1",
-                                                                "i8",
-                                                                "i16",
-                                                                "i32",
-                                                                "i64",
-                                                                "f16",
-                                                                "bf16",
-                                                                "f32",
-                                                                "tf32",
-                                                                "f64",
-                                                                "f8e4m3fn",
-                                                                "f8e5m2",
-                                                                "ptr",
-                                                                "tile",
-                                                                "tensor_view",
-                                                                "partition_view",
-                                                                "func",
-                                                                "token",
-                                                                "f8e8m0fnu",
-                                                                "f4e2m1fn",
-                                                                "gather_scatter_view",
-                                                                "strided_view",
-                                                                "i4"};
+inline constexpr std::array<std::string_view, 23> TYPE_NAMES = {
+    "i1",
+    "i8",
+    "i16",
+    "i32",
+    "i64",
+    "f16",
+    "bf16",
+    "f32",
+    "tf32",
+    "f64",
+    "f8e4m3fn",
+    "f8e5m2",
+    "ptr",
+    "tile",
+    "tensor_view",
+    "partition_view",
+    "func",
+    "token",
+    "f8e8m0fnu",
+    "f4e2m1fn",
+    "gather_scatter_view",
+    "strided_view",
+    "i4",
+};
 
 inline constexpr std::array<std::string_view, 7> DEBUG_NAMES = {"Unknown", "DICompileUnit", "DIFile",  "DILexicalBlock",
                                                                 "DILoc",   "DISubprogram",  "CallSite"};
@@ -185,12 +187,6 @@ class Numbers {
     [[nodiscard]] Int operator[](std::uint64_t i) const noexcept {
         assert(i < size_);
         return at(i).value_or(0);
-    }
-    /// `count` numbers from number `from` on; none if they are not all there.
-    [[nodiscard]] Numbers part(std::uint64_t from, std::uint64_t count) const noexcept {
-        return from <= size_ && count <= size_ - from
-                   ? Numbers(Bytes(words_ + from * detail::WORD, count * detail::WORD))
-                   : Numbers();
     }
     [[nodiscard]] Iterator begin() const noexcept { return Iterator(words_); }
     [[nodiscard]] Iterator end() const noexcept { return Iterator(words_ + size_ * detail::WORD); }

@@ -15,6 +15,8 @@ static int version_is_that_of_the_text(void) {
     return is(text, TIKOMUCI_VERSION);
 }
 
+static int archive_has_the_number(void) { return tikomuci_abi() == TIKOMUCI_ABI && tikomuci_abi_1() == TIKOMUCI_ABI; }
+
 static int names_are_there(void) {
     return is(tikomuci_refusal_name(0), "accepted") && is(tikomuci_refusal_name(TIKOMUCI_REFUSAL_ABSENT), "absent") &&
            is(tikomuci_refusal_name(TIKOMUCI_REFUSAL_OVERLAP), "overlap") &&
@@ -47,6 +49,9 @@ static int answers_come_by_value(void) {
 const char *header_fault(void) {
     if (!version_is_that_of_the_text()) {
         return "the version in numbers is that of the text";
+    }
+    if (!archive_has_the_number()) {
+        return "the number of the interface";
     }
     if (!names_are_there()) {
         return "the names of refusals and stages";
