@@ -405,8 +405,8 @@ TIKOMUCI_CALL tikomuci_answer tikomuci_image(const uint8_t *sheet, size_t sheet_
 
 /*
  * The image of a sheet and a pool. Lent a pool of as many bytes as word 4 says, within its limit, and an output with
- * room, it answers what tikomuci_image answers; a pool of another length is 12, and one over its limit 1. A refused call
- * changes nothing, and an accepted one changes no byte of the output behind the image.
+ * room, it answers what tikomuci_image answers; a pool of another length is 12, and one over its limit 1. A refused
+ * call changes nothing, and an accepted one changes no byte of the output behind the image.
  */
 TIKOMUCI_CALL tikomuci_answer tikomuci_write(const uint8_t *sheet, size_t sheet_len, const uint8_t *pool,
                                              size_t pool_len, uint8_t *out, size_t out_len) TIKOMUCI_NOEXCEPT;
