@@ -8,6 +8,7 @@ use std::fs;
 use std::path::{Path, PathBuf};
 
 use boundary::Answer;
+use dump::Sheet;
 use reading::{read, text, UNTOUCHED};
 
 const FOLDER: &str = concat!(env!("CARGO_MANIFEST_DIR"), "/../../files");
@@ -82,14 +83,11 @@ fn written_back_and_read_again() {
 fn every_version_and_kind() {
     let mut met: BTreeMap<u64, [BTreeSet<u64>; 4]> = BTreeMap::new();
     for (file, _) in accepted() {
-        let (words, _) = read(&file);
+        let (words, pool) = read(&file);
+        let sheet = Sheet::new(&words, &pool);
         let [types, attributes, tables, empty] = met.entry(words[1]).or_default();
-        let mut at = words[7] as usize;
-        for _ in 0..words[8] {
-            types.insert(words[at + 1]);
-            at += 1 + words[at] as usize;
-        }
-        attributes.extend((0..words[16]).map(|i| words[(words[15] + 7 * i) as usize]));
+        types.extend(sheet.types().iter().map(|row| row[0]));
+        attributes.extend(sheet.attributes().iter().map(|row| row[0]));
         for table in 0..7 {
             let with_rows = words[6 + 2 * table as usize] > 0;
             if with_rows { &mut *tables } else { &mut *empty }.insert(table);

@@ -8,7 +8,7 @@ mod types;
 
 use std::fmt::Write;
 
-use sheet::Sheet;
+pub use sheet::Sheet;
 
 const KERNEL: u64 = 2;
 const HINTS: u64 = 4;

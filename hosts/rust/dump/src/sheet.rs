@@ -1,6 +1,6 @@
 //! The tables of a sheet, by its table of contents.
 
-/// An accepted file's sheet and pool.
+/// The sheet and the pool of a file that was read.
 pub struct Sheet<'a> {
     words: &'a [u64],
     pool: &'a [u8],
@@ -48,6 +48,7 @@ impl<'a> Sheet<'a> {
         (self.words[0], self.words[1]) >= (major, minor)
     }
 
+    /// The version, as decoder.rs shows it.
     pub fn version(&self) -> String {
         match self.words[..3] {
             [major, minor, 0] => format!("{major}.{minor}"),
@@ -71,6 +72,7 @@ impl<'a> Sheet<'a> {
         self.rows(STRINGS).iter().map(|&[size]| next(size)).collect()
     }
 
+    /// The types, each as its tag and its fields.
     pub fn types(&self) -> Vec<&'a [u64]> {
         self.counted(TYPES)
     }

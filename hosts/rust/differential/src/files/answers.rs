@@ -5,6 +5,7 @@ use std::collections::BTreeMap;
 use std::fmt::Write;
 use std::path::Path;
 
+use dump::Sheet;
 use plain::{Reading, Refusal};
 
 use super::dice::Dice;
@@ -91,14 +92,11 @@ fn chosen_files() -> Vec<Vec<u8>> {
 /// What an accepted file shows: debug tags, flags of functions, globals by version class, and the producer.
 fn shows(reading: &Reading) -> Vec<(&'static str, u64)> {
     let words = &reading.words;
-    let rows = |table: usize, width: usize| {
-        let (start, rows) = (words[5 + 2 * table] as usize, words[6 + 2 * table] as usize);
-        words[start..start + rows * width].chunks_exact(width)
-    };
+    let sheet = Sheet::new(words, &reading.pool);
     let class = if words[0] == 13 { words[1].min(5) } else { 6 };
-    let mut shown: Vec<_> = rows(5, 7).map(|attribute| ("attribute", attribute[0])).collect();
-    shown.extend(rows(4, 5).map(|function| ("function", function[2] & 3)));
-    shown.extend(rows(3, 6).map(|global| ("global", class << 2 | global[4].min(2))));
+    let mut shown: Vec<_> = sheet.attributes().iter().map(|attribute| ("attribute", attribute[0])).collect();
+    shown.extend(sheet.functions().iter().map(|function| ("function", function[2] & 3)));
+    shown.extend(sheet.globals().iter().map(|global| ("global", class << 2 | global[4].min(2))));
     shown.extend([("strings", words[6]), ("constants", words[10]), ("lists", words[18]), ("producer", words[3])]);
     shown
 }

@@ -2,6 +2,8 @@
 
 use std::collections::{BTreeMap, BTreeSet};
 
+use dump::Sheet;
+
 use super::types::TAGS;
 use crate::tally::{Against, Tally};
 
@@ -27,14 +29,12 @@ fn class(words: &[u64]) -> usize {
 
 impl Coverage {
     pub fn add(&mut self, file: &[u8], words: &[u64]) {
-        let class = class(words);
-        let mut at = words[7] as usize;
-        for _ in 0..words[8] {
-            *self.types.entry((words[at + 1], class)).or_default() += 1;
-            at += 1 + words[at] as usize;
+        let (class, sheet) = (class(words), Sheet::new(words, &[]));
+        for row in sheet.types() {
+            *self.types.entry((row[0], class)).or_default() += 1;
         }
-        for i in 0..words[16] {
-            *self.attributes.entry(words[(words[15] + 7 * i) as usize]).or_default() += 1;
+        for row in sheet.attributes() {
+            *self.attributes.entry(row[0]).or_default() += 1;
         }
         if file.len() < LARGE {
             self.files += 1;

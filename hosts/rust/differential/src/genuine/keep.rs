@@ -6,6 +6,9 @@ use std::fmt::Write;
 use std::path::Path;
 use std::{fs, io};
 
+use dump::Sheet;
+use plain::fields::parts;
+
 use super::{names, written, Genuine, WITH_HINTS};
 
 const KEPT_FILES: usize = 40;
@@ -24,31 +27,20 @@ struct Kind {
     value: u64,
 }
 
-/// The rows of a table in a sheet, in which each has `width` words.
-fn rows(words: &[u64], table: usize, width: usize) -> impl Iterator<Item = &[u64]> {
-    let (start, rows) = (words[5 + 2 * table] as usize, words[6 + 2 * table] as usize);
-    words[start..start + rows * width].chunks_exact(width)
-}
-
-/// The types, by their tags and by whether their optional field is there.
-fn types(words: &[u64]) -> Vec<(&'static str, u64)> {
-    let mut at = words[7] as usize;
-    let mut next = || {
-        let (count, row) = (words[at] as usize, &words[at + 1..]);
-        at += 1 + count;
-        let optional = matches!(row[0], 12 | 14 | 15 | 20 | 21) && row[1] % 2 == 1;
-        (if optional { "a type with its optional field" } else { "a type" }, row[0])
-    };
-    (0..words[8]).map(|_| next()).collect()
+/// A type by its tag, and by whether its optional field is there.
+fn of_type(row: &[u64]) -> (&'static str, u64) {
+    let optional = parts(row[0], &row[1..]).is_some_and(|parts| parts.flags & 1 != 0);
+    (if optional { "a type with its optional field" } else { "a type" }, row[0])
 }
 
 /// What a file has, if it is accepted.
 fn kinds(file: &[u8]) -> BTreeSet<Kind> {
     let Ok(plain::Reading { words, pool, .. }) = plain::read(file) else { return BTreeSet::new() };
-    let mut kinds = types(&words);
-    kinds.extend(rows(&words, 3, 6).map(|global| ("a global", 2 * global[4] + global[5])));
-    kinds.extend(rows(&words, 4, 5).map(|function| ("a function", function[2])));
-    kinds.extend(rows(&words, 5, 7).map(|attribute| ("an attribute", attribute[0])));
+    let sheet = Sheet::new(&words, &pool);
+    let mut kinds: Vec<(&str, u64)> = sheet.types().into_iter().map(of_type).collect();
+    kinds.extend(sheet.globals().iter().map(|global| ("a global", 2 * global[4] + global[5])));
+    kinds.extend(sheet.functions().iter().map(|function| ("a function", function[2])));
+    kinds.extend(sheet.attributes().iter().map(|attribute| ("an attribute", attribute[0])));
     kinds.extend((words[3] > 0).then_some(("a producer", 0)));
     kinds.extend((!pool.is_ascii()).then_some(("bytes that are no ASCII", 0)));
     let version = words[1];
@@ -90,14 +82,13 @@ fn with_hints(files: &[Genuine]) -> Vec<&Genuine> {
 }
 
 /// Puts files into a folder in place of those that are there, each with its text. Gives their sums.
-fn put(files: Vec<&Genuine>, folder: &Path, below: &str) -> io::Result<String> {
+fn put(mut files: Vec<&Genuine>, folder: &Path, below: &str) -> io::Result<String> {
     fs::create_dir_all(folder)?;
     for path in names(folder)? {
         fs::remove_file(path.with_extension("txt"))?;
         fs::remove_file(path)?;
     }
     let mut sums = String::new();
-    let mut files = files;
     files.sort_by_key(|genuine| &genuine.name);
     for genuine in files {
         let path = folder.join(&genuine.name);
