@@ -288,7 +288,10 @@ TIKOMUCI_CALL tikomuci_answer tikomuci_read_le_u64(const uint8_t *data, size_t l
 TIKOMUCI_CALL tikomuci_answer tikomuci_read_le_i32(const uint8_t *data, size_t len, uint64_t at) TIKOMUCI_NOEXCEPT;
 TIKOMUCI_CALL tikomuci_answer tikomuci_read_le_i64(const uint8_t *data, size_t len, uint64_t at) TIKOMUCI_NOEXCEPT;
 
-/* Padding bytes up to the next multiple of `alignment`: `first` is how many. A byte that is not 0xCB is refused (5). */
+/*
+ * Padding bytes up to the next multiple of `alignment`: `first` is how many. A byte that is not 0xCB is refused (5). At
+ * the end of the data there may be none to pass over; past it the call is refused (2) even then.
+ */
 TIKOMUCI_CALL tikomuci_answer tikomuci_skip_padding(const uint8_t *data, size_t len, uint64_t at,
                                                     uint64_t alignment) TIKOMUCI_NOEXCEPT;
 
