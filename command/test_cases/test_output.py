@@ -155,9 +155,9 @@ class Replaced(Case):
         return subprocess.Popen([*harness.COMMAND, "constant", "large", "0", "-o", "out"], cwd=self.folder, **options)
 
     def ended_while_it_writes(self, number, size):
-        """Whether the signal came before all was written."""
+        """Whether the signal came before all was written. Whoever runs the tests may have it ignored."""
         self.file("out", b"old")
-        with self.write_large(size) as process:
+        with self.write_large(size, preexec_fn=lambda: signal.signal(number, signal.SIG_DFL)) as process:
             while process.poll() is None and not any(name.startswith(".tikomuci-") for name in self.names()):
                 time.sleep(0.001)
             process.send_signal(number)
