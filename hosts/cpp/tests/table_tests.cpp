@@ -8,7 +8,7 @@
 #include <vector>
 
 #include "check.hpp"
-#include "tikomuci_tables.hpp"
+#include "tikomuci_builder.hpp"
 #include "walk.hpp"
 
 namespace {
@@ -158,6 +158,36 @@ void ranges() {
     expect(first.number() == 0 && type.number() == 1 && first != type && (*first).tag == TypeTag::I32 &&
                (*type).tag == TypeTag::Func && ++type == types.end(),
            "steps of a range");
+}
+
+// Five rows in every table, no two of one size: by range, by number, over other stores, and by an index.
+void many_rows() {
+    tikomuci::Builder builder({13, 4, 0});
+    for (std::uint8_t number = 0; number < 5; ++number) {
+        const Wire bytes(number + 1U, number);
+        builder.string(bytes);
+        builder.constant(bytes);
+        builder.tile(number, std::vector<std::int64_t>(number, -number));
+        builder.global({number, 1, 2, 3, 4, true});
+        builder.function({number, 0, 0, 0, bytes});
+        builder.di_file(number, 1);
+        builder.list(WordList(number, 7));
+    }
+    const Wire file = builder.file().value_or(Wire());
+    const Tables tables = tables_of("five rows in every table", file);
+    const walk::Sums rows = walk::by_range(tables.sheet());
+    expect(rows.size() == 7 * 6 && walk::by_number(tables.sheet()) == rows, "five rows in every table");
+    for (std::uint8_t number = 0; number < 5; ++number) {
+        const std::string bytes(number + 1U, static_cast<char>(number));
+        const auto function = tables.sheet().function(number);
+        expect(spells(tables.sheet().string(number), bytes) && spells(tables.sheet().constant(number), bytes) &&
+                   function && function->name == number && spells(function->body, bytes),
+               "the bytes of row " + std::to_string(number));
+    }
+    Wire words(tables.sheet().bytes().size());
+    Wire pool(tables.sheet().pool().size());
+    const auto lent = tikomuci::read_sheet(file, words, pool);
+    expect(lent && walk::by_range(*lent) == rows && walk::by_number(*lent) == rows, "the same rows in lent stores");
 }
 
 // Moving the tables keeps their rows, and leaves none behind.
@@ -345,6 +375,8 @@ void sheets_that_are_none() {
     expect(Sheet::open(sheet, Bytes(pool).first(11)).outcome() == SHEET, "a pool with a byte too few");
     pool.push_back(0);
     expect(Sheet::open(sheet, pool).outcome() == SHEET, "a pool with a byte too many");
+    expect(tikomuci::patch_u64(sheet, 4 * 8, pool.size()) && Sheet::open(sheet, pool).outcome() == SHEET,
+           "a byte of the pool that is no row's");
     not_opened("a major version above 255", 0, 256);
     not_opened("a minor version above 255", 1, 256);
     not_opened("a version tag above 65535", 2, 65536);
@@ -383,6 +415,7 @@ void table_tests() {
     every_row();
     rows_outside();
     ranges();
+    many_rows();
     moved_tables();
     lent_stores();
     newest_types();
