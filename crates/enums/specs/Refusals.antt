@@ -1,4 +1,4 @@
--- Refusal numbers and stages, each named once (document 01, "Refusal numbers").
+-- Refusal numbers and stages, each named once (document 01, "Refusal numbers"; 18 is document 02's, 8/14).
 use Prim.Native.Nat.{ℕ}
 use mathlib.Core.List.{List, [], _∷_}
 
@@ -46,7 +46,7 @@ hints = 10
 abbrev pub full : ℕ
 full = 11
 
--- Sheet not well-formed.
+-- Sheet not well-formed; or the owner table or the buffer of a cache.
 abbrev pub unsound : ℕ
 unsound = 12
 
@@ -57,6 +57,10 @@ startTooLarge = 13
 -- Asked index or section not there; patch outside.
 abbrev pub notThere : ℕ
 notThere = 14
+
+-- Every slot of a cache is taken.
+abbrev pub noSlot : ℕ
+noSlot = 18
 
 -- Stages.
 
@@ -102,7 +106,7 @@ atCall = 10
 abbrev pub refusalNumbers : List ℕ
 refusalNumbers =
     limit ∷ short ∷ overlong ∷ notMagic ∷ unpadded ∷ bounds ∷ noProducer ∷ typeTag ∷ debugTag ∷ hints ∷ full ∷
-    unsound ∷ startTooLarge ∷ notThere ∷ []
+    unsound ∷ startTooLarge ∷ notThere ∷ noSlot ∷ []
 
 -- All stages, in their order.
 abbrev pub stages : List ℕ

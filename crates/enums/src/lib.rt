@@ -259,8 +259,10 @@ impl Refusal {
 
     pub const ABSENT: u8 = 14;
 
+    pub const NO_SLOT: u8 = 18;
+
     // Every refusal number.
-    pub fn all() -> [u8; 14]
+    pub fn all() -> [u8; 15]
         ensures { λ r. ⌜ r ≡ refusals.refusalNumbers ⌝ }
     {
         [
@@ -278,6 +280,7 @@ impl Refusal {
             Refusal::SHEET,
             Refusal::START,
             Refusal::ABSENT,
+            Refusal::NO_SLOT,
         ]
     }
 }

@@ -1,0 +1,6 @@
+pub mod Cache
+pub mod Lent
+pub mod Judge
+pub mod Meaning
+pub mod Calls
+pub mod History
