@@ -1,1 +1,2 @@
 pub mod LawsLowest
+pub mod LawsOwners

@@ -1,6 +1,7 @@
 pub mod Cache
 pub mod Lent
 pub mod Judge
+pub mod Owners
 pub mod Meaning
 pub mod Calls
 pub mod History
