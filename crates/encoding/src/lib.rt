@@ -216,15 +216,24 @@ fn put_le_i32s(out: &mut [u8], at: usize, values: &[i32])
     }
 }
 
-// Stores n bytes of padding.
-fn put_padding(out: &mut [u8], at: usize, n: usize)
+// Stores a byte n times.
+fn put_repeated(out: &mut [u8], at: usize, n: usize, byte: u8)
     requires { ⌜ at + n ≤ length (now out) ⌝ }
-    ensures { λ _. ⌜ now (out .exit) ≡ put (now (out .entry)) at (replicate n P) ⌝ }
+    ensures { λ _. ⌜ now (out .exit) ≡ put (now (out .entry)) at (replicate n byte) ⌝ }
 {
     let mut i = 0;
     while i < n {
-        out[at + i] = enums::ALIGNMENT_BYTE;
+        out[at + i] = byte;
         i += 1;
+    }
+}
+
+// Stores n bytes of 0 where they have room, and else nothing.
+pub fn clear(out: &mut [u8], at: usize, n: usize)
+    ensures { λ _. ⌜ now (out .exit) ≡ put (now (out .entry)) at (replicate n 0) ⌝ }
+{
+    if has_room(out.len(), at, n) {
+        put_repeated(out, at, n, 0);
     }
 }
 
@@ -397,7 +406,7 @@ impl EncodingWriter {
         let at = self.at;
         let padding = padding_to(alignment, at);
         if has_room(out.len(), at, padding) {
-            put_padding(out, at, padding);
+            put_repeated(out, at, padding, enums::ALIGNMENT_BYTE);
             return self.asked(alignment).moved(at + padding);
         }
         Written::Refused(Refusal::FULL)

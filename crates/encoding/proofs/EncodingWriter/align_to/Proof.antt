@@ -32,8 +32,8 @@ padding-to-requires c κs = search needs
 has-room-requires : tie.Need-has-room-requires
 has-room-requires c κs = search needs
 
-put-padding-requires : tie.Need-put-padding-requires
-put-padding-requires c κs = c .before .before .has-room .ensures .holds (c .before .if1 .taken)
+put-repeated-requires : tie.Need-put-repeated-requires
+put-repeated-requires c κs = c .before .before .has-room .ensures .holds (c .before .if1 .taken)
 
 asked-requires : tie.Need-asked-requires
 asked-requires c κs = search needs
@@ -56,7 +56,7 @@ returns c =
     let a = p .before .before .before .before .before .before .args in
     let e = p .before .before .before .before .padding-to .ensures in
     padded (a .self) (a .alignment) e (c .before .asked .ensures) h
-    (p .put-padding .ensures) (c .moved .ensures)
+    (p .put-repeated .ensures) (c .moved .ensures)
 
 returns-2 : tie.Need-returns-2
 returns-2 c =
@@ -71,7 +71,7 @@ align-to-spec =
     (tie.spec
     padding-to-requires
     has-room-requires
-    put-padding-requires
+    put-repeated-requires
     asked-requires
     add-moved
     moved-requires
