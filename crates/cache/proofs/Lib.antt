@@ -1,1 +1,6 @@
 pub mod LawsLowest
+pub mod LawsTable
+pub mod LawsSlots
+pub mod LawsStored
+pub mod LawsFound
+pub mod LawsMeaning
