@@ -17,7 +17,7 @@ use Rattle.cache.specs.Lent.{Lent, Taken, markAt, instanceAt, slotSize, 
 use Rattle.cache.specs.Judge.{isGood}
 use Rattle.cache.specs.Meaning.{cacheOf, ofCache, putAnswer, dropAnswer}
 use Rattle.cache.proofs.LawsLowest.{LowestAt, NoneSuch, Found, found, nowhere, lowest-found}
-use Rattle.cache.proofs.LawsSlots.{length-slots, getD-slots}
+use Rattle.cache.proofs.LawsSlots.{length-slots, slots-at}
 use Rattle.cache.proofs.LawsStored.{good-cache, bad-cache, taken-slot, free-slot}
 
 -- An accepted call was given a cache, and accepted with it.
@@ -30,20 +30,23 @@ answered n s f v e = go (isGood n s)
     go (yes g) = (g, rw (good-cache n s g) at e)
     go (no h) = absurd (refused-not-accepted (rw (bad-cache n s h) at e))
 
+-- What was accepted was found ..
 or-refused-inv : (r : ℕ) (o : Option ℕ) (k : ℕ) → orRefused r o ≡ accepted k → o ≡ some k
 unfolding orRefused
 or-refused-inv r none k e = absurd (refused-not-accepted e)
 or-refused-inv r (some j) k e = ap some (accepted-value e)
 
+-- .. and passed the test.
 choose-inv : {P A : Type 0} (d : Dec P) (r : Read A) (c n i : ℕ) (v : A) → choose d r (refused c n i) ≡ accepted v → P × (r ≡ accepted v)
 unfolding choose
 choose-inv (yes p) r c n i v e = (p, e)
 choose-inv (no h) r c n i v e = absurd (refused-not-accepted e)
 
--- The lowest that was found, and that none is such.
+-- The lowest slot that was found ..
 pub found-at : {P : Slot → Type 0} {c : List Slot} {k : ℕ} → Found P c (some k) → LowestAt P c k
 found-at (found x) = x
 
+-- .. and that none was.
 pub none-at : {P : Slot → Type 0} {c : List Slot} → Found P c none → NoneSuch P c
 none-at (nowhere x) = x
 
@@ -61,13 +64,14 @@ module _ (n : ℕ) (s : Lent) where
 
   -- Who holds a slot is in its row ..
   pub held-of : (i l : ℕ) → l < n → Taken (s .owners) l → instanceAt (s .owners) l ≡ i → HeldBy i (getD slots l free)
-  held-of i l h t e = subst (HeldBy i) (sym (getD-slots n (slotAt n s) l free h ∙ taken-slot n s l t)) e
+  held-of i l h t e = subst (HeldBy i) (sym (slots-at n (slotAt n s) l free h ∙ taken-slot n s l t)) e
 
+  -- .. and in its row is who holds it ..
   pub of-held : (i l : ℕ) → l < n → HeldBy i (getD slots l free) → Taken (s .owners) l × (instanceAt (s .owners) l ≡ i)
   of-held i l h x = go (decLt 0 (markAt (s .owners) l))
     where
       e : getD slots l free ≡ slotAt n s l
-      e = getD-slots n (slotAt n s) l free h
+      e = slots-at n (slotAt n s) l free h
 
       go : Dec (Taken (s .owners) l) → Taken (s .owners) l × (instanceAt (s .owners) l ≡ i)
       go (yes t) = (t, subst (HeldBy i) (e ∙ taken-slot n s l t) x)
@@ -75,7 +79,7 @@ module _ (n : ℕ) (s : Lent) where
 
   -- .. and a free one's row is not taken.
   pub of-free : (l : ℕ) → l < n → Free (getD slots l free) → ¬ Taken (s .owners) l
-  of-free l h x t = subst Free (getD-slots n (slotAt n s) l free h ∙ taken-slot n s l t) x
+  of-free l h x t = subst Free (slots-at n (slotAt n s) l free h ∙ taken-slot n s l t) x
 
   module _ (i k : ℕ) where
     -- The slot that i holds is its own ..
@@ -104,6 +108,7 @@ module _ (n : ℕ) (s : Lent) where
           alone = λ l b d u p. y l (omega arith) (held-of i l b u p);
         }
 
+    -- One or the other.
     own-either : Good n s → (o : Option ℕ) → slotOf i slots ≡ o → orElse o (lowest isFree slots) ≡ some k → Own n i s k
     unfolding orElse
     own-either g none e f = own-free e f

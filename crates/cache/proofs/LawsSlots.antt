@@ -5,7 +5,7 @@ use Prim.Native.Nat.{ℕ, zero, suc, _+_, _-_, _*_, _≤_, _<_}
 use native.Mathlib.Nat.{mul-le-mul-right}
 use native.Mathlib.Omega.{arith}
 use native.Mathlib.Decide.{ℕ-discrete, decLt}
-use mathlib.Core.List.{List, [], _∷_, _++_}
+use mathlib.Core.List.{List, _++_}
 use lib.ListN.{length, take, drop, getD, set, replicate, length-append, length-replicate, length-set}
 use lib.Seq.{take-take, take-append-seam, getD-set-same, getD-set-other, ext-getD}
 use Rattle.encoding.specs.Out.{put}
@@ -18,7 +18,11 @@ use Rattle.cache.proofs.LawsTable.{put-beside}
 pub slot-before : (z k n : ℕ) → k < n → k * z + z ≤ n * z
 slot-before z k n h = let e : suc k * z ≤ n * z = mul-le-mul-right z h in omega arith
 
--- So different slots have no byte in common.
+-- So each of n slots lies inside a buffer of as many ..
+pub slot-inside : (z k n : ℕ) (b : List ℕ) → k < n → length b ≡ n * z → k * z + z ≤ length b
+slot-inside z k n b h e = rw e (slot-before z k n h)
+
+-- .. and different ones have no byte in common.
 pub slots-apart : (z k l : ℕ) → ¬ (l ≡ k) → (l * z + z ≤ k * z) ⊎ (k * z + z ≤ l * z)
 slots-apart z k l h = go (decLt l k)
   where
@@ -31,6 +35,7 @@ abbrev pub filled : ℕ → List ℕ → List ℕ
 filled z bs = bs ++ replicate (z - length bs) 0
 
 module _ (z : ℕ) (bs : List ℕ) (fits : length bs ≤ z) where
+  -- They are as many as the slot has.
   pub length-filled : length (filled z bs) ≡ z
   length-filled = simp (length-append, length-replicate) (omega arith)
 
@@ -61,21 +66,21 @@ length-slots zero f = refl
 length-slots (suc n) f = ap suc (length-slots n (λ k. f (suc k)))
 
 -- .. each what it should be.
-pub getD-slots : (n : ℕ) (f : ℕ → Slot) (k : ℕ) (d : Slot) → k < n → getD (slotsUpTo n f) k d ≡ f k
+pub slots-at : (n : ℕ) (f : ℕ → Slot) (k : ℕ) (d : Slot) → k < n → getD (slotsUpTo n f) k d ≡ f k
 unfolding slotsUpTo
-getD-slots zero f k d h = absurd (omega arith)
-getD-slots (suc n) f zero d h = refl
-getD-slots (suc n) f (suc k) d h = getD-slots n (λ k. f (suc k)) k d (omega arith)
+slots-at zero f k d h = absurd (omega arith)
+slots-at (suc n) f zero d h = refl
+slots-at (suc n) f (suc k) d h = slots-at n (λ k. f (suc k)) k d (omega arith)
 
 -- With another slot k.
 pub slots-set : (n k : ℕ) (f g : ℕ → Slot) (x : Slot) → g k ≡ x → ((l : ℕ) → l < n → ¬ (l ≡ k) → g l ≡ f l) →
     slotsUpTo n g ≡ set (slotsUpTo n f) k x
 slots-set n k f g x e h =
     ext-getD free _ _ (length-slots n g ∙ sym (length-set (slotsUpTo n f) k x ∙ length-slots n f))
-    (λ i l. let j : i < n = omega (arith, length-slots n g) in getD-slots n g i free j ∙ each i j (ℕ-discrete i k))
+    (λ i l. let j : i < n = omega (arith, length-slots n g) in slots-at n g i free j ∙ each i j (ℕ-discrete i k))
   where
     each : (i : ℕ) → i < n → Dec (i ≡ k) → g i ≡ getD (set (slotsUpTo n f) k x) i free
     each i j (yes p) =
         subst (λ y. g y ≡ getD (set (slotsUpTo n f) k x) y free) (sym p)
         (e ∙ sym (getD-set-same (slotsUpTo n f) k x free (omega (arith, length-slots n f))))
-    each i j (no p) = h i j p ∙ sym (getD-set-other (slotsUpTo n f) k i x free p ∙ getD-slots n f i free j)
+    each i j (no p) = h i j p ∙ sym (getD-set-other (slotsUpTo n f) k i x free p ∙ slots-at n f i free j)

@@ -1,16 +1,14 @@
 -- What a buffer and an owner table stand for, and what they stand for with a slot and its row stored anew. Assumes nothing.
 use mathlib.Core.Path.{_≡_, refl, sym, ap, subst, _∙_}
-use mathlib.Core.Option.{Option, none, some, Option·none-ne-some, Option·some-injective}
-use Prim.Native.Nat.{ℕ, zero, suc, _+_, _-_, _*_, _/_, _^_, _≤_, _<_}
+use mathlib.Core.Option.{none, some, Option·none-ne-some, Option·some-injective}
+use Prim.Native.Nat.{ℕ, _*_, _/_, _^_, _≤_, _<_}
 use native.Mathlib.Omega.{arith}
 use native.Mathlib.Decide.{ℕ-discrete, decLt}
 use mathlib.Core.List.{List, [], _∷_}
 use lib.ListN.{length, take, drop, set}
 use Rattle.exact.specs.Choice.{choose}
 use Rattle.exact.proofs.LawsChoice.{choose-yes, choose-no}
-use Rattle.encoding.specs.Out.{put}
 use Rattle.encoding.proofs.LawsOut.{length-put}
-use Rattle.sheet.specs.Store.{putWords}
 use Rattle.sheet.proofs.LawsStore.{length-putWords}
 use Rattle.cache.specs.Cache.{Slot, free, held}
 use Rattle.cache.specs.Lent.{Lent, Taken, markAt, instanceAt, lengthAt, slotSize, Rows, Good, slotAt, slotsUpTo}
@@ -18,7 +16,7 @@ use Rattle.cache.specs.Judge.{isGood}
 use Rattle.cache.specs.Meaning.{cacheOf, stored}
 use Rattle.cache.specs.Calls.{SlotKept}
 use Rattle.cache.proofs.LawsTable.{RowIs, row-put, row-kept}
-use Rattle.cache.proofs.LawsSlots.{filled, slot-before, slot-begins, slot-kept, slots-set}
+use Rattle.cache.proofs.LawsSlots.{slot-inside, slot-begins, slot-kept, slots-set}
 
 module _ (n : ℕ) (s : Lent) where
   -- What is good stands for its slots ..
@@ -68,16 +66,18 @@ module _ (n : ℕ) (s : Lent) (k : ℕ) where
           taken-slot (rw (r .at-mark) h) ∙ rw (r .at-instance, r .at-size, e h) (sym (choose-yes (decLt 0 m) (held i f) free h))
       go (no h) = free-slot (rw (r .at-mark) h) ∙ sym (choose-no (decLt 0 m) (held i f) free h)
 
--- Storing a slot keeps the lengths, and so the slots' size.
 module _ (n : ℕ) (bs ws : List ℕ) (s : Lent) (k : ℕ) where
+  -- Storing a slot keeps the length of the buffer ..
   pub stored-buffer : length (stored n bs ws s k .buffer) ≡ length (s .buffer)
   unfolding stored
   stored-buffer = length-put _ _ _
 
+  -- .. and that of the owner table ..
   pub stored-owners : length (stored n bs ws s k .owners) ≡ length (s .owners)
   unfolding stored
   stored-owners = length-putWords ws (s .owners) (3 * k)
 
+  -- .. and so the slots' size.
   pub stored-size : slotSize n (stored n bs ws s k .buffer) ≡ slotSize n (s .buffer)
   stored-size = ap (λ j. j / n) stored-buffer
 
@@ -106,6 +106,7 @@ module _ (n k m i : ℕ) (bs : List ℕ) (s : Lent) (g : Good n s) (inside : k <
   abbrev after : Lent
   after = stored n bs (m ∷ i ∷ length bs ∷ []) s k
 
+  -- The row has these words, and every other has its own ..
   own-row : RowIs (after .owners) k m i (length bs)
   unfolding stored
   own-row = row-put n k m i (length bs) (s .owners) inside (g .owners) small number limit
@@ -114,13 +115,14 @@ module _ (n k m i : ℕ) (bs : List ℕ) (s : Lent) (g : Good n s) (inside : k <
   unfolding stored
   other-row l h = row-kept k l (m ∷ i ∷ length bs ∷ []) (s .owners) refl h
 
+  -- .. so the slot stands for the file, and every other for what it did.
   own-slot : slotAt n after k ≡ meant m i bs
   unfolding stored
   own-slot =
-      let r = slot-before (slotSize n (s .buffer)) k n inside in
+      let r = slot-inside (slotSize n (s .buffer)) k n (s .buffer) inside (g .buffer) in
       slot-means n after k m i (length bs) bs own-row
       (λ h. rw (stored-size n bs (m ∷ i ∷ length bs ∷ []) s k)
-      (slot-begins (slotSize n (s .buffer)) bs fits (s .buffer) k (omega (arith, g .buffer))))
+      (slot-begins (slotSize n (s .buffer)) bs fits (s .buffer) k r))
 
   other-slot : (l : ℕ) → l < n → ¬ (l ≡ k) → slotAt n after l ≡ slotAt n s l
   unfolding slotAt
@@ -129,10 +131,11 @@ module _ (n k m i : ℕ) (bs : List ℕ) (s : Lent) (g : Good n s) (inside : k <
       (λ t. rw (stored-size n bs (m ∷ i ∷ length bs ∷ []) s k)
       (stored-part n bs (m ∷ i ∷ length bs ∷ []) s k fits l (lengthAt (s .owners) l) d (g .rows .fits l h t)))
 
-  -- Instance i then has no other taken row, if that one is taken.
+  -- If the row is to be taken, instance i has no other taken one.
   abbrev Alone : Type 0
   Alone = (l : ℕ) → l < n → ¬ (l ≡ k) → 0 < m → Taken (s .owners) l → ¬ (instanceAt (s .owners) l ≡ i)
 
+  -- The rows are then as they should be, and so is the whole.
   rows-after : Alone → Rows (slotSize n (s .buffer)) (after .owners) n
   rows-after alone =
       record { fits = λ l h t. fits-at l h t (ℕ-discrete l k); once = λ j l a b t u. once-at j l a b t u (ℕ-discrete j k) (ℕ-discrete l k) }

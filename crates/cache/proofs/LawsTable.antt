@@ -21,8 +21,7 @@ use Rattle.cache.specs.Lent.{markAt, instanceAt, lengthAt}
 -- Bytes beside those that were put are as they were.
 pub put-beside : (out : List ℕ) (at : ℕ) (bs : List ℕ) (j m : ℕ) → (j + m ≤ at) ⊎ (at + length bs ≤ j) →
     take m (drop j (put out at bs)) ≡ take m (drop j out)
-put-beside out at bs j m o =
-    ext-getD 0 _ _ (simp (length-take, length-drop, length-put)) each
+put-beside out at bs j m o = ext-getD 0 _ _ (simp (length-take, length-drop, length-put)) each
   where
     beside : (i : ℕ) → i < m → (j + m ≤ at) ⊎ (at + length bs ≤ j) → (j + i < at) ⊎ (at + length bs ≤ j + i)
     beside i h (inl k) = inl (omega arith)
@@ -69,14 +68,13 @@ word-kept s i w j h = go (decLt j (length s / 8))
     go (no k) = no-word s' j (rw length-put (omega arith)) ∙ sym (no-word s j (omega arith))
 
 -- Of several words that were put, those beside them are as they were ..
-pub words-kept : (ws s : List ℕ) (i j : ℕ) → (j < i) ⊎ (i + length ws ≤ j) →
+pub words-kept : (ws s : List ℕ) (i j : ℕ) → ((k : ℕ) → k < length ws → ¬ (j ≡ i + k)) →
     getD (wordsIn (putWords s i ws)) j 0 ≡ getD (wordsIn s) j 0
 unfolding putWords
-words-kept [] s i j o = refl
-words-kept (w ∷ ws) s i j (inl h) =
-    words-kept ws (putWord s i w) (i + 1) j (inl (omega arith)) ∙ word-kept s i w j (omega arith)
-words-kept (w ∷ ws) s i j (inr h) =
-    words-kept ws (putWord s i w) (i + 1) j (inr (omega arith)) ∙ word-kept s i w j (omega arith)
+words-kept [] s i j h = refl
+words-kept (w ∷ ws) s i j h =
+    words-kept ws (putWord s i w) (i + 1) j (λ k b e. h (suc k) (omega arith) (omega arith)) ∙
+    word-kept s i w j (λ e. h 0 (omega arith) (omega arith))
 
 -- .. and each is there.
 pub words-put : (ws s : List ℕ) (i k : ℕ) → k < length ws → i + length ws ≤ length s / 8 → getD ws k 0 < 2 ^ 64 →
@@ -84,7 +82,7 @@ pub words-put : (ws s : List ℕ) (i k : ℕ) → k < length ws → i + length w
 unfolding putWords
 words-put [] s i k h r b = absurd (omega arith)
 words-put (w ∷ ws) s i zero h r b =
-    rw add-zero (words-kept ws (putWord s i w) (i + 1) i (inl (omega arith)) ∙ word-put s i w (omega arith) b)
+    rw add-zero (words-kept ws (putWord s i w) (i + 1) i (λ k b e. omega arith) ∙ word-put s i w (omega arith) b)
 words-put (w ∷ ws) s i (suc k) h r b =
     let e : i + suc k ≡ i + 1 + k = omega arith in
     rw e (words-put ws (putWord s i w) (i + 1) k (omega arith) (rw length-putWord (omega arith)) b)
@@ -111,11 +109,11 @@ row-put n k m i z owners h e a b c =
 pub row-kept : (k l : ℕ) (ws owners : List ℕ) → length ws ≡ 3 → ¬ (l ≡ k) →
     RowIs (putWords owners (3 * k) ws) l (markAt owners l) (instanceAt owners l) (lengthAt owners l)
 row-kept k l ws owners e h =
-    record { at-mark = other (3 * l) (omega arith) (omega arith); at-instance = other _ (omega arith) (omega arith); at-size = other _ (omega arith) (omega arith) }
+    record {
+      at-mark = other _ (omega arith) (omega arith);
+      at-instance = other _ (omega arith) (omega arith);
+      at-size = other _ (omega arith) (omega arith);
+    }
   where
-    apart : (j : ℕ) → 3 * l ≤ j → j < 3 * l + 3 → Dec (l < k) → (j < 3 * k) ⊎ (3 * k + length ws ≤ j)
-    apart j a b (yes i) = inl (omega arith)
-    apart j a b (no i) = inr (omega arith)
-
     other : (j : ℕ) → 3 * l ≤ j → j < 3 * l + 3 → getD (wordsIn (putWords owners (3 * k) ws)) j 0 ≡ getD (wordsIn owners) j 0
-    other j a b = words-kept ws owners (3 * k) j (apart j a b (decLt l k))
+    other j a b = words-kept ws owners (3 * k) j (λ d c p. omega arith)

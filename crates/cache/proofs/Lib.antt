@@ -4,3 +4,4 @@ pub mod LawsSlots
 pub mod LawsStored
 pub mod LawsFound
 pub mod LawsMeaning
+pub mod Others
