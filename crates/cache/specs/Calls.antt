@@ -7,7 +7,9 @@ use lib.ListN.{take, drop, getD, replicate}
 use Rattle.enums.specs.Container.{constantId}
 use Rattle.format.specs.Read.{Read, accepted, refused, mapRead}
 use Rattle.format.specs.Views.{Span, constantsIn, Viewed}
+use Rattle.enums.specs.Refusals as refusals
 use Rattle.container.specs.declared.ViewRead.{ViewRead}
+use Rattle.container.specs.declared.sections.Stopped.{Stopped}
 use Rattle.container.specs.Views.{viewOf}
 use Rattle.cache.specs.declared.SlotRead.{SlotRead}
 use Rattle.cache.specs.declared.SlotRead.the-variants as slot
@@ -18,6 +20,10 @@ use Rattle.cache.specs.Meaning.{cacheOf, putAnswer, fetchAnswer, dropAns
 abbrev pub slotRead : SlotRead → Read ℕ
 slotRead (slot.Got k) = accepted k
 slotRead (slot.Stop x) = refused (x .no) (x .stage) (x .at)
+
+-- A refusal that is not the file's.
+abbrev pub callRefused : ℕ → Stopped
+callRefused n = record { no = n; stage = refusals.atCall; at = 0 }
 
 -- Slot l and its row are as they were.
 pub record SlotKept (n l : ℕ) (s s' : Lent) : Type 0 where
@@ -33,10 +39,14 @@ pub record SlotCleared (n l : ℕ) (s : Lent) : Type 0 where
   pub instance : instanceAt (s .owners) l ≡ 0
   pub size : lengthAt (s .owners) l ≡ 0
 
+-- A call that writes: what it answers, and what it leaves.
+pub record Writes (answer : Lent → Read ℕ) (leaves : Lent → Lent) (s s' : Lent) (r : SlotRead) : Type 0 where
+  pub answered : slotRead r ≡ answer s
+  pub left : s' ≡ leaves s
+
 -- Putting a file for instance i.
 pub record PutPost (n i : ℕ) (file : List ℕ) (s s' : Lent) (r : SlotRead) : Type 0 where
-  pub answer : slotRead r ≡ putAnswer n i file s
-  pub lent : s' ≡ putLent n i file s
+  pub writes : Writes (putAnswer n i file) (putLent n i file) s s' r
   -- A refused call has changed nothing ..
   pub kept : (c m a : ℕ) → slotRead r ≡ refused c m a → s' ≡ s
   -- .. and an accepted one no other slot, and no other row.
@@ -46,8 +56,7 @@ pub record PutPost (n i : ℕ) (file : List ℕ) (s s' : Lent) (r : SlotRead) : 
 
 -- Dropping the file of instance i.
 pub record DropPost (n i : ℕ) (s s' : Lent) (r : SlotRead) : Type 0 where
-  pub answer : slotRead r ≡ dropAnswer n i s
-  pub lent : s' ≡ dropLent n i s
+  pub writes : Writes (dropAnswer n i) (dropLent n i) s s' r
   pub kept : (c m a : ℕ) → slotRead r ≡ refused c m a → s' ≡ s
   pub others : (k : ℕ) → slotRead r ≡ accepted k → (l : ℕ) → l < n → ¬ (l ≡ k) → SlotKept n l s s'
   -- The slot's bytes and its row are 0.

@@ -2,10 +2,143 @@
 // slots is a parameter. Nothing is written before everything is judged, so a refused call changes nothing.
 mod owners;
 
+ghost use mathlib.Core.Path.{_≡_};
+ghost use mathlib.Core.List.{_++_};
+ghost use Prim.Native.Nat.{_+_, _-_, _*_, _≤_};
+ghost use lib.ListN.{length, replicate};
+ghost use Rattle.encoding.specs.Out.{put};
+ghost use Rattle.decoder.specs.Views.{Accepted};
+ghost use Rattle.cache.specs.Lent.{Good};
+ghost use Rattle.cache.specs.Owners.{Judged, SlotFor};
+ghost use Rattle.cache.specs.Meaning.{putAnswer, putLent};
+ghost use Rattle.cache.specs.Calls.{callRefused, Writes, PutPost, FetchPost, DropPost};
+use container::View;
+use container::ViewRead;
 use container::sections::Stopped;
+use enums::Refusal;
+use enums::Stage;
+use owners::Wanted;
+use payloads::FileRead;
 
 // The slot of a call that was accepted; or why it was refused.
 pub enum SlotRead {
     Got(usize),
     Stop(Stopped),
+}
+
+// A refusal that is not the file's.
+fn stopped(no: u8) -> Stopped
+    ensures { λ r. ⌜ r ≡ callRefused no ⌝ }
+{
+    Stopped {
+        no,
+        stage: Stage::CALL,
+        at: 0,
+    }
+}
+
+// Whether a buffer of so many bytes and an owner table stand for a cache.
+fn judged(len: usize, owners: &[u8], slots: usize) -> bool
+    ensures { λ r. ⌜ Judged len (now (owners .entry)) slots r ⌝ }
+{
+    if slots == 0 {
+        return false;
+    }
+    if len % slots != 0 || owners.len() % 24 != 0 || owners.len() / 24 != slots {
+        return false;
+    }
+    owners::rows_good(owners, slots, (len / slots) as u64)
+}
+
+// The slot that a file of this instance goes to: the one that it holds, else the lowest free one; else the number of slots.
+fn slot_for(owners: &[u8], slots: usize, instance: u64) -> usize
+    requires { ⌜ slots * 24 ≤ length (now owners) ⌝ }
+    ensures { λ r. ⌜ SlotFor slots instance (now (owners .entry)) r ⌝ }
+{
+    let slot = owners::first_row(owners, slots, Wanted::HeldBy(instance));
+    if slot < slots {
+        return slot;
+    }
+    owners::first_row(owners, slots, Wanted::Free)
+}
+
+// A slot begins with these bytes, and the rest of it is cleared.
+fn fill_slot(cache: &mut [u8], start: usize, size: usize, bytes: &[u8])
+    requires { ⌜ (start + size ≤ length (now cache)) × (length (now bytes) ≤ size) ⌝ }
+    ensures { λ _. ⌜ now (cache .exit) ≡ put (now (cache .entry)) start (now (bytes .entry) ++ replicate (size - length (now (bytes .entry))) 0) ⌝ }
+{
+    sheet::put_run(cache, start, bytes);
+    encoding::clear(cache, start + bytes.len(), size - bytes.len());
+}
+
+// A file that is accepted is put, if it fits and there is a slot.
+fn put_accepted(cache: &mut [u8], owners: &mut [u8], slots: usize, instance: u64, file: &[u8]) -> SlotRead
+    requires { ⌜ Good slots (record { buffer = now cache; owners = now owners }) × Accepted (now file) ⌝ }
+    ensures { λ r. ⌜ Writes (putAnswer slots instance (now (file .entry))) (putLent slots instance (now (file .entry))) (record { buffer = now (cache .entry); owners = now (owners .entry) }) (record { buffer = now (cache .exit); owners = now (owners .exit) }) r ⌝ }
+{
+    let size = cache.len() / slots;
+    if size < file.len() {
+        return SlotRead::Stop(stopped(Refusal::FULL));
+    }
+    let slot = slot_for(owners, slots, instance);
+    if slot == slots {
+        return SlotRead::Stop(stopped(Refusal::NO_SLOT));
+    }
+    fill_slot(cache, slot * size, size, file);
+    owners::put_row(owners, slot, 1, instance, file.len() as u64);
+    SlotRead::Got(slot)
+}
+
+// Puts a file for an instance: the cache is judged first, and then the file.
+pub fn put(cache: &mut [u8], owners: &mut [u8], slots: usize, instance: u64, file: &[u8]) -> SlotRead
+    ensures { λ r. ⌜ PutPost slots instance (now (file .entry)) (record { buffer = now (cache .entry); owners = now (owners .entry) }) (record { buffer = now (cache .exit); owners = now (owners .exit) }) r ⌝ }
+{
+    if !judged(cache.len(), owners, slots) {
+        return SlotRead::Stop(stopped(Refusal::SHEET));
+    }
+    match decoder::measure(file) {
+        FileRead::Stop(x) => SlotRead::Stop(x),
+        FileRead::Got(_) => put_accepted(cache, owners, slots, instance, file),
+    }
+}
+
+// The constant of the file that an instance has, and its place in the buffer. The file is judged, and exactly the length
+// that was kept.
+pub fn fetch(cache: &[u8], owners: &[u8], slots: usize, instance: u64, index: u64) -> ViewRead
+    ensures { λ r. ⌜ FetchPost slots instance index (record { buffer = now (cache .entry); owners = now (owners .entry) }) r ⌝ }
+{
+    if !judged(cache.len(), owners, slots) {
+        return ViewRead::Stop(stopped(Refusal::SHEET));
+    }
+    let slot = owners::first_row(owners, slots, Wanted::HeldBy(instance));
+    if slot == slots {
+        return ViewRead::Stop(stopped(Refusal::ABSENT));
+    }
+    let start = slot * (cache.len() / slots);
+    let end = start + owners::length(owners, slot) as usize;
+    match decoder::constant(&cache[start..end], index) {
+        ViewRead::Stop(x) => ViewRead::Stop(x),
+        ViewRead::Got(view) => ViewRead::Got(View {
+            start: start + view.start,
+            len: view.len,
+        }),
+    }
+}
+
+// Drops the file of an instance: the slot's bytes and its row become 0.
+pub fn drop(cache: &mut [u8], owners: &mut [u8], slots: usize, instance: u64) -> SlotRead
+    ensures { λ r. ⌜ DropPost slots instance (record { buffer = now (cache .entry); owners = now (owners .entry) }) (record { buffer = now (cache .exit); owners = now (owners .exit) }) r ⌝ }
+{
+    if !judged(cache.len(), owners, slots) {
+        return SlotRead::Stop(stopped(Refusal::SHEET));
+    }
+    let slot = owners::first_row(owners, slots, Wanted::HeldBy(instance));
+    if slot == slots {
+        return SlotRead::Stop(stopped(Refusal::ABSENT));
+    }
+    let size = cache.len() / slots;
+    let none: [u8; 0] = [];
+    fill_slot(cache, slot * size, size, &none);
+    owners::put_row(owners, slot, 0, 0, 0);
+    SlotRead::Got(slot)
 }
