@@ -6,3 +6,8 @@ pub mod LawsStored
 pub mod LawsFound
 pub mod LawsMeaning
 pub mod Others
+pub mod LawsCache
+pub mod LawsHistory
+pub mod FetchOwn
+pub mod Apart
+pub mod NoSlot
