@@ -1,5 +1,5 @@
-//! The caches of 16 and of 64 slots: a worked history, every refusal and its order, and what each call leaves as it was.
-//! No Rust source is needed.
+//! The caches of 16 and of 64 slots: a worked history, every refusal and its order, and what each call leaves as it
+//! was. No Rust source is needed.
 
 use std::fs;
 use std::path::PathBuf;

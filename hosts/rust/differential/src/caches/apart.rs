@@ -1,5 +1,5 @@
-//! The calls of an instance once more, in another cache and between other calls of the others. Only "no slot" depends on
-//! those: where it is given at the same places, all answers are the same, slot places apart.
+//! The calls of an instance once more, in another cache and between other calls of the others. Only "no slot" depends
+//! on those: where it is given at the same places, all answers are the same, slot places apart.
 
 use boundary::{Answer, NO_SLOT};
 

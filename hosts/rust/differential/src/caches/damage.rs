@@ -1,4 +1,5 @@
-//! What a host may do between calls: to rows of the owner table, to bytes of the slots, and to the lengths that it lends.
+//! What a host may do between calls: to rows of the owner table, to bytes of the slots, and to the lengths that it
+//! lends.
 
 use boundary::OWNER_BYTES;
 
@@ -133,8 +134,8 @@ fn other_file(random: &mut Random, history: &History, lent: &mut Lent) -> Option
     Some(instance)
 }
 
-/// One wound: which it is, and the instance that it is about. A file can be refused in many ways, so that the last wound
-/// comes more often than the others.
+/// One wound: which it is, and the instance that it is about. A file can be refused in many ways, so that the last
+/// wound comes more often than the others.
 pub fn hurt(random: &mut Random, history: &History, lent: &mut Lent) -> Option<(usize, u64)> {
     let last = WOUNDS.len() - 1;
     let wound = if random.one_in(3) { last } else { random.below(last as u64) as usize };

@@ -40,8 +40,8 @@ impl<'f> Ledger<'f> {
         !self.kept.contains_key(&instance) && self.kept.len() == self.slots
     }
 
-    /// Whether a put was refused for want of a slot, or was not, as it ought to be. `None` if the file does not pass, or
-    /// does not fit.
+    /// Whether a put was refused for want of a slot, or was not, as it ought to be. `None` if the file does not pass,
+    /// or does not fit.
     pub fn refused_rightly(&self, instance: u64, file: &[u8], answer: Answer) -> Option<bool> {
         let passes = file.len() <= self.size && boundary::measure(file).refusal == 0;
         let wanted = if self.no_slot(instance) { NO_SLOT } else { 0 };

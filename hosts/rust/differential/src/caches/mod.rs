@@ -1,5 +1,5 @@
-//! Caches of files: histories of calls by several instances. After every call the answer and all memory are compared with
-//! the plain cache. In every second history a host damages the cache between calls. In the others what an instance
+//! Caches of files: histories of calls by several instances. After every call the answer and all memory are compared
+//! with the plain cache. In every second history a host damages the cache between calls. In the others what an instance
 //! fetches is compared with what it put, and its calls are made once more between other calls of the others.
 
 mod apart;
