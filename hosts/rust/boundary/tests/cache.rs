@@ -228,7 +228,8 @@ fn marks_and_free_rows() {
     }
 }
 
-/// What a fetch judges is the kept length and no byte more, before the entry that is asked for.
+/// What a fetch judges is the kept length and no byte more, before the entry that is asked for. A drop clears the whole
+/// slot.
 #[test]
 fn files_that_the_host_damaged() {
     for calls in CACHES {
@@ -252,7 +253,8 @@ fn files_that_the_host_damaged() {
         }
         assert_eq!(lent, before);
         assert_eq!(lent.drop(calls, 2), Answer::accepted(2, 0));
-        assert_eq!(lent.cache[2 * 50..3 * 50], [0; 50]);
+        assert_eq!(lent.drop(calls, 3), Answer::accepted(3, 0));
+        assert_eq!(lent.cache[2 * 50..4 * 50], [0; 100]);
     }
 }
 

@@ -3,7 +3,7 @@
 
 use std::collections::{BTreeMap, BTreeSet};
 
-use boundary::{Answer, Cache, ABSENT, CACHE, FULL, NO_SLOT, SESSION, SHEET, STAGE_CALL};
+use boundary::{Answer, Cache, ABSENT, CACHE, FULL, NO_SLOT, OWNER_BYTES, SESSION, SHEET, STAGE_CALL};
 
 use super::calls::{Asked, Call};
 use super::damage::WOUNDS;
@@ -46,6 +46,8 @@ macro_rules! kinds {
 kinds! {
     ExactFit = "a file that fits exactly, put",
     ByteTooLarge = "a file that is a byte too large",
+    OddBuffer = "a buffer that is not of equal slots",
+    OtherTable = "an owner table of another length",
     EmptyBuffer = "an empty buffer",
     NullBuffer = "a null buffer",
     NullTable = "a null owner table",
@@ -96,14 +98,20 @@ impl Counts {
         *refused += u64::from(answer.refusal == SHEET);
     }
 
+    fn lengths(&mut self, slots: usize, Lengths { cache, owners }: Lengths) {
+        self.met(Kind::OddBuffer, cache.unwrap_or(0) % slots != 0);
+        self.met(Kind::OtherTable, owners.is_some_and(|length| length != slots * OWNER_BYTES));
+        self.met(Kind::EmptyBuffer, cache == Some(0));
+        self.met(Kind::NullBuffer, cache.is_none());
+        self.met(Kind::NullTable, owners.is_none());
+    }
+
     pub fn call(&mut self, calls: Cache, call: &Call, lengths: Lengths, answer: Answer) {
         self.calls += 1;
         let answers = &mut self.answers[which(calls)][number(call.asked)];
         *answers.entry((answer.stage, answer.refusal)).or_default() += 1;
         let accepted = answer.refusal == 0;
-        self.met(Kind::EmptyBuffer, lengths.cache == Some(0));
-        self.met(Kind::NullBuffer, lengths.cache.is_none());
-        self.met(Kind::NullTable, lengths.owners.is_none());
+        self.lengths(calls.slots, lengths);
         let size = lengths.cache.unwrap_or(0) / calls.slots;
         if let Asked::Put(file) = call.asked {
             self.met(Kind::NullFile, file.is_none());
