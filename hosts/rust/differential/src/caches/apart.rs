@@ -3,7 +3,7 @@
 
 use boundary::{Answer, NO_SLOT};
 
-use super::calls::{Asked, Call};
+use super::calls::{bytes_at, Asked, Call};
 use super::history::{any, History};
 use super::ledger::Ledger;
 use super::lent::Lent;
@@ -21,9 +21,8 @@ impl Said {
         if answer.refusal != 0 || !matches!(call.asked, Asked::Fetch(_)) {
             return Self { answer: Answer { first: 0, ..answer }, bytes: Vec::new() };
         }
-        let bytes = cache.get(answer.first as usize..).and_then(|from| from.get(..answer.second as usize));
         let inside = Answer { first: answer.first % size.max(1) as u64, ..answer };
-        Self { answer: inside, bytes: bytes.unwrap_or_default().to_vec() }
+        Self { answer: inside, bytes: bytes_at(cache, answer).unwrap_or_default().to_vec() }
     }
 }
 

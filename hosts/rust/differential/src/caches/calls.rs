@@ -30,6 +30,11 @@ fn refused(refusal: Refusal) -> Answer {
     Answer::refused_at(refusal.number, refusal.stage)
 }
 
+/// The bytes of a place that a call answered, if it is inside.
+pub fn bytes_at(memory: &[u8], place: Answer) -> Option<&[u8]> {
+    memory.get(place.first as usize..)?.get(..place.second as usize)
+}
+
 impl Call<'_> {
     pub fn of_library(&self, calls: Cache, Lent { cache, owners }: &mut Lent, lengths: Lengths) -> Answer {
         let cache = lengths.cache.map(|count| cache.first(count));

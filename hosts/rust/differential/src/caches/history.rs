@@ -39,8 +39,8 @@ fn index(random: &mut Random) -> u64 {
 /// The size of a slot: that of a file, a byte less, as much as any file needs, or nothing.
 fn slot_size(random: &mut Random, files: &[Vec<u8>]) -> usize {
     let most = if random.one_in(16) { usize::MAX } else { LARGE };
-    let sizes: Vec<usize> = files.iter().map(Vec::len).filter(|&size| size <= most).collect();
-    let largest = sizes.iter().max().copied().unwrap_or(0);
+    let sizes: Vec<usize> = files.iter().map(Vec::len).filter(|&size| size <= most).chain([0]).collect();
+    let largest = sizes.iter().fold(0, |largest, &size| largest.max(size));
     match random.below(16) {
         0 => 0,
         1..=4 => *any(random, &sizes),

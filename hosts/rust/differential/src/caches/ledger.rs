@@ -5,7 +5,7 @@ use std::collections::BTreeMap;
 
 use boundary::{Answer, ABSENT, NO_SLOT};
 
-use super::calls::{Asked, Call};
+use super::calls::{bytes_at, Asked, Call};
 
 /// A slot, and the file that is in it.
 type Kept<'f> = (u64, &'f [u8]);
@@ -29,10 +29,8 @@ impl<'f> Ledger<'f> {
         if in_file.refusal != 0 {
             return answer == in_file;
         }
-        let bytes =
-            |of: &[u8], place: Answer| of.get(place.first as usize..)?.get(..place.second as usize).map(<[u8]>::to_vec);
         answer == Answer { first: slot * self.size as u64 + in_file.first, ..in_file }
-            && bytes(cache, answer).is_some_and(|fetched| Some(fetched) == bytes(file, in_file))
+            && bytes_at(cache, answer) == bytes_at(file, in_file)
     }
 
     /// Whether there is no slot for an instance.
