@@ -3,7 +3,7 @@
 # make command: build/tikomuci, which shows and checks files.
 # make library: build/libtikomuci.a, for this machine's processor.
 # make install: the library, its headers and the command, below PREFIX; make uninstall removes them.
-# make bench: our calls beside encoding.rs, decoder.rs and a plain reader and writer in Rust.
+# make bench: our calls beside encoding.rs, decoder.rs, a plain reader and writer in Rust, and a map in C++.
 # make comparison: our calls compared with the Rust on made files (SEED=n for other ones).
 # make fuzz: tries the calls on arbitrary bytes for a minute (FUZZ_SECONDS=n).
 # make sanitizers: the tests and the corpus under AddressSanitizer and UndefinedBehaviorSanitizer.
@@ -108,7 +108,7 @@ endif
 
 bench: $(LIBRARY) | build/setup
 ifneq ($(HAS_RUST),)
-	cargo run $(IN_RUST) --release --package bench
+	CXX='$(CXX)' cargo run $(IN_RUST) --release --package bench
 else
 	@echo "no Rust source at $(RUST_SOURCE): there is nothing to measure against" >&2; exit 1
 endif
