@@ -19,6 +19,7 @@ void table_tests();
 void write_tests();
 void builder_tests();
 void guard_tests();
+void cache_tests();
 void format_tests();
 void memory_tests();
 void cxx17_tests();
@@ -342,6 +343,7 @@ int main() {
     write_tests();
     builder_tests();
     guard_tests();
+    cache_tests();
     format_tests();
     memory_tests();
     cxx17_tests();
