@@ -20,6 +20,8 @@ void write_tests();
 void builder_tests();
 void guard_tests();
 void cache_tests();
+void cache_guard_tests();
+void profile_cache_tests();
 void format_tests();
 void memory_tests();
 void cxx17_tests();
@@ -344,6 +346,8 @@ int main() {
     builder_tests();
     guard_tests();
     cache_tests();
+    cache_guard_tests();
+    profile_cache_tests();
     format_tests();
     memory_tests();
     cxx17_tests();
