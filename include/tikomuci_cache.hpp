@@ -210,7 +210,8 @@ class SessionStores {
 
 /// The bytes of a constant in a ProfileCache, and the lock under which they stay what they are. As long as it is held,
 /// others fetch, and a put or a drop waits. The thread that got it has to let go of it, before the cache is gone, and
-/// before it calls the cache again: it might wait for itself forever.
+/// before it calls the cache again: it might wait for itself forever. One without a name is there until the end of its
+/// statement, `cache.fetch(1, 0) && cache.drop(1)` too.
 class [[nodiscard]] HeldProfile {
   public:
     /// Nothing is held, as by one that was moved from.
