@@ -1,4 +1,4 @@
-// tikomuci.hpp: the calls of tikomuci.h over spans, for C++17 and later.
+// tikomuci.hpp: the calls of tikomuci.h over spans, for C++17 and later; tikomuci_cache.hpp has those of the cache.
 //
 // A Writer and a Reader keep the place between calls. A refused call leaves the place and the bytes as they were.
 // Answers are [[nodiscard]], and the value of one is reached only where it has a name: no refusal is lost by silence.

@@ -240,7 +240,8 @@ class [[nodiscard]] HeldProfile {
 };
 
 /// A cache that threads share: 64 slots, and a lock that fetches share and that a put or a drop has alone. Refusals are
-/// those of the calls over spans but for Sheet, since nobody else reaches the stores.
+/// those of the calls over spans but for Sheet, since nobody else reaches the stores. Who comes first of those that
+/// wait is for the system to say: fetches without a pause may keep a put waiting.
 class ProfileCache {
   public:
     /// No cache, as one is that was moved from: each call is refused with Memory.

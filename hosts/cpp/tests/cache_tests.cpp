@@ -156,8 +156,8 @@ void null_spans(const Calls &calls) {
            "no stores");
 }
 
-// The calls of an instance, with a good file, one that is cut and one that is too large. The model judges each; whether
-// the first, which is no cache's own refusal, was refused with 12.
+// The calls of an instance, with a file that is cut, one that is too large and a good one, each judged by the model.
+// Whether they were refused with 12, which all of them are or none.
 bool each_call(Lent &lent, std::uint64_t instance) {
     Tried cache = lent.tried();
     const Wire good = file_of({{1, 2}});
