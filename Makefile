@@ -49,7 +49,8 @@ link = $(cxx) $(or $(checks),$(LDFLAGS)) $(filter %.o %.a,$^) -o $@ $(names)
 TESTS := $(patsubst hosts/cpp/%.cpp,%.o,$(wildcard hosts/cpp/tests/*_tests.cpp)) tests/header.o
 COMMAND := $(patsubst %.cpp,%.o,$(wildcard command/*.cpp))
 # How many calls each of sixty threads makes on one cache, and the files that they put.
-SESSION := 1700 $(sort $(wildcard hosts/files/*.tileirbc hosts/files/hints/*.tileirbc))
+SESSION_CALLS := 1700
+SESSION_FILES := hosts/files/*.tileirbc hosts/files/hints/*.tileirbc
 
 # The gate's steps come one after the other, whatever -j says; the parts of the last, which share nothing that they
 # write, go two at a time.
@@ -89,7 +90,7 @@ cpp-tests: build/all_tests build/session build/session_threads build/tikomuci
 	hosts/cpp/tests/abi $(LIBRARY) $(CC) $(CXX)
 	hosts/cpp/tests/readme $(LIBRARY) -- $(CXX) -std=c++17 -O2 $(WARNINGS)
 	tools/timed "C++ tests" build/all_tests
-	tools/timed "sixty threads on one cache" build/session_threads $(SESSION)
+	tools/timed "sixty threads on one cache" build/session_threads $(SESSION_CALLS) $(SESSION_FILES)
 	build/session >/dev/null
 	tools/timed "command tests" command/tests build/tikomuci
 

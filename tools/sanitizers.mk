@@ -34,7 +34,7 @@ sanitizers: build/fuzz/corpus $(FUZZERS) build/address/all_tests build/address/s
 	diff -r build/fuzz/made $(CORPUS)
 	tools/timed "corpus, sanitized" hosts/cpp/fuzz/run 0 $(notdir $(FUZZERS))
 	tools/timed "C++ tests, sanitized" build/address/all_tests
-	tools/timed "sixty threads on one cache, sanitized" build/address/session_threads $(SESSION)
+	tools/timed "sixty threads on one cache, sanitized" build/address/session_threads $(SESSION_CALLS) $(SESSION_FILES)
 	build/address/tikomuci check $(CORPUS)/file/* >/dev/null
 	ASAN_OPTIONS=detect_leaks=0 tools/timed "command tests, sanitized" command/tests build/address/tikomuci
 
@@ -42,7 +42,8 @@ sanitizers: build/fuzz/corpus $(FUZZERS) build/address/all_tests build/address/s
 IN_PLACE = $(shell setarch -R true 2>/dev/null && echo setarch -R)
 threads: build/thread/threads build/thread/session_threads
 	tools/timed "sixty threads" $(IN_PLACE) build/thread/threads $(CORPUS)/file/*
-	tools/timed "sixty threads on one cache, for races" $(IN_PLACE) build/thread/session_threads $(SESSION)
+	tools/timed "sixty threads on one cache, for races" $(IN_PLACE) build/thread/session_threads $(SESSION_CALLS) \
+	    $(SESSION_FILES)
 
 build/fuzz/corpus: build/fuzz/corpus.o $(LIBRARY)
 	$(link)
