@@ -5,8 +5,8 @@
 // `session_put` and the others are the calls over stores that a host lends. Nothing here throws, and only `make`
 // allocates.
 //
-// What it costs: a put judges the file and copies it, and a fetch judges the kept file, each time. Both look at every
-// row of the owner table.
+// What it costs: a put judges the file and copies it, and a fetch judges the kept file, each time. Every call compares
+// each row of the owner table with the others.
 #ifndef TIKOMUCI_CACHE_HPP
 #define TIKOMUCI_CACHE_HPP
 
@@ -210,8 +210,8 @@ class SessionStores {
 
 /// The bytes of a constant in a ProfileCache, and the lock under which they stay what they are. As long as it is held,
 /// others fetch, and a put or a drop waits. The thread that got it has to let go of it, before the cache is gone, and
-/// before it calls the cache again: it might wait for itself forever. One without a name is there until the end of its
-/// statement, `cache.fetch(1, 0) && cache.drop(1)` too.
+/// before it calls the cache again: it might wait for itself forever. One without a name is held until the end of its
+/// statement, so that `cache.fetch(1, 0) && cache.drop(1)` is such a wait.
 class [[nodiscard]] HeldProfile {
   public:
     /// Nothing is held, as by one that was moved from.
