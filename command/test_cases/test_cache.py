@@ -373,3 +373,24 @@ class Dumped(Case):
         self.assertTrue(self.said("cache", b"a\x1b[31mb", b"\xffa")[1].startswith(r"a\x1b[31mb, \xffa: accepted"))
         one = self.object(0, "", "cache", "--json", b"a\x1b[31mb", b"\xffa")
         self.assertEqual((one["file"], one["buffer"]), ("a\x1b[31mb", {"hex": "ff61"}))
+
+
+class Format(Case):
+    """The cache of docs/FORMAT.md, before and after an instance drops its file."""
+
+    def blocks(self, name):
+        text = (ROOT / "docs/FORMAT.md").read_text()
+        blocks = re.findall(rf"^```{name}\n(.*?)^```\n", text, re.MULTILINE | re.DOTALL)
+        return [bytes.fromhex("".join(line.split("   ")[0] for line in block.splitlines())) for block in blocks]
+
+    def test_the_example(self):
+        held = []
+        for rows, slots in zip(self.blocks("owners"), self.blocks("slots")):
+            self.file("owners", rows.ljust(CACHE_SLOTS * ROW, b"\0"))
+            self.file("buffer", slots.ljust(640, b"\0"))
+            objects = self.objects(0, "", "cache", "--json", "owners", "buffer")
+            self.assertEqual((objects[0]["slots"], objects[0]["slot_size"]), (16, 40))
+            held.append([(one["slot"], one["instance"], one["length"], one["constants"]) for one in objects[1:]])
+        of_7 = 0, 7, 35, [{"offset": 32, **checksum(b"\xaa\xbb")}]
+        of_300 = 1, 300, 35, [{"offset": 72, **checksum(b"\xcc\xdd")}]
+        self.assertEqual(held, [[of_7, of_300], [of_300]])
