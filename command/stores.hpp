@@ -10,8 +10,8 @@
 
 namespace command {
 
-/// The stores of a cache of 64 slots. A slot is as large as the largest file that passed, and has at most as many bytes
-/// that the buffer is within the limit of a file.
+/// The stores of a cache of 64 slots. A slot is as large as the largest file that passed, as long as the buffer is not
+/// over the limit of a file: `cache` reads no more.
 class Stores {
   public:
     Stores() : Stores(0) {}
