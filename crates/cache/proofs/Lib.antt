@@ -11,3 +11,4 @@ pub mod LawsHistory
 pub mod FetchOwn
 pub mod Apart
 pub mod NoSlot
+pub mod Empty
