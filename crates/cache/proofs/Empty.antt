@@ -1,5 +1,5 @@
--- When a cache is empty: n equal slots of any bytes, and an owner table of n rows whose marks are 0, whatever stands in their other words. So
--- lent zeros are an empty cache. Assumes nothing.
+-- When a cache is empty: n equal slots of any bytes, and an owner table of n rows whose marks are 0, whatever stands in their other words.
+-- So lent zeros are an empty cache. Assumes nothing.
 use mathlib.Core.Path.{_≡_, refl, sym, ap, ap₂, _∙_}
 use Prim.Native.Nat.{ℕ, zero, suc, _+_, _*_, _/_, _<_}
 use native.Mathlib.Nat.{div-eq-of-eq-mul-right}

@@ -6,9 +6,10 @@ pub mod LawsStored
 pub mod LawsFound
 pub mod LawsMeaning
 pub mod Others
+pub mod Empty
+pub mod Examples
 pub mod LawsCache
 pub mod LawsHistory
 pub mod FetchOwn
 pub mod Apart
 pub mod NoSlot
-pub mod Empty
