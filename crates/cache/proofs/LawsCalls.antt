@@ -1,29 +1,24 @@
 -- How the calls follow their model: what they answer, what they leave, and that their contracts allow one result only.
 -- Assumes nothing.
-use mathlib.Core.Path.{_≡_, refl, sym, ap, ap₂, subst, _∙_}
+use mathlib.Core.Path.{_≡_, refl, sym, ap, _∙_}
 use Prim.Native.Nat.{ℕ, _+_, _-_, _*_, _^_, _≤_, _<_}
 use native.Mathlib.Omega.{arith}
 use native.Mathlib.Decide.{decLe}
 use mathlib.Core.Option.{Option, none, some}
-use mathlib.Core.List.{List, [], _∷_, _++_}
-use lib.ListN.{length, take, drop, getD, replicate, length-replicate}
-use Rattle.exact.specs.Choice.{choose}
+use mathlib.Core.List.{List, _++_}
+use lib.ListN.{length, replicate, length-replicate}
 use Rattle.exact.proofs.LawsChoice.{choose-yes, choose-no}
 use Rattle.encoding.specs.Out.{put}
 use Rattle.encoding.proofs.LawsOut.{put-append}
 use Rattle.enums.specs.Refusals as refusals
-use Rattle.enums.specs.Container.{constantId}
 use Rattle.format.specs.Tables.{Tables}
 use Rattle.format.specs.Read.{Read, accepted, refused, mapRead}
 use Rattle.format.specs.Decode.{onlyTables, decode}
-use Rattle.format.specs.Views.{Span, andThen, constantsIn, constantView, Viewed}
-use Rattle.format.proofs.Decoded.{map-inv, map-refused}
-use Rattle.format.proofs.Viewed.{then-inv, constant-viewed}
-use Rattle.format.proofs.LawsStands.{stands-bytes}
+use Rattle.format.specs.Views.{andThen}
+use Rattle.format.proofs.Decoded.{map-refused}
 use Rattle.sheet.specs.Store.{putWords}
 use Rattle.container.specs.declared.sections.Stopped.{Stopped}
 use Rattle.container.specs.declared.ViewRead.{ViewRead}
-use Rattle.container.specs.Views.{viewOf}
 use Rattle.container.proofs.LawsViews.{view-only}
 use Rattle.reading.proofs.LawsShown.{only}
 use Rattle.payloads.specs.declared.FileRead.{FileRead}
@@ -32,11 +27,11 @@ use Rattle.payloads.specs.Whole.{fileRead, needOf}
 use Rattle.decoder.specs.Views.{Accepted}
 use Rattle.cache.specs.declared.SlotRead.{SlotRead}
 use Rattle.cache.specs.declared.SlotRead.the-variants as slot
-use Rattle.cache.specs.Cache.{Slot, free, fileIn, InSlot, slotOf, slotFor, orRefused, putIn, dropIn, fetchIn}
-use Rattle.cache.specs.Lent.{Lent, Taken, lengthAt, slotSize, Good, slotAt, slotsUpTo}
-use Rattle.cache.specs.Meaning.{cacheOf, ofCache, putAnswer, fetchAnswer, dropAnswer, inBuffer, stored, afterwards, putLent, dropLent}
+use Rattle.cache.specs.Cache.{Slot, slotOf, slotFor, orRefused, putIn, dropIn}
+use Rattle.cache.specs.Lent.{Lent, slotSize, Good, slotAt, slotsUpTo}
+use Rattle.cache.specs.Meaning.{cacheOf, ofCache, putAnswer, dropAnswer, stored, afterwards, putLent, dropLent}
 use Rattle.cache.specs.Owners.{asSlot}
-use Rattle.cache.specs.Calls.{slotRead, Writes, PutPost, DropPost, Fetched, FetchPost}
+use Rattle.cache.specs.Calls.{slotRead, Writes, PutPost, DropPost, FetchPost}
 use Rattle.cache.proofs.LawsStored.{good-cache, bad-cache}
 use Rattle.cache.proofs.LawsMeaning.{put-means, drop-means, put-others, drop-others, drop-cleared}
 

@@ -18,7 +18,7 @@ use Rattle.container.specs.Views.{viewOf}
 use Rattle.cache.specs.declared.owners.Wanted.the-variants as wanted
 use Rattle.cache.specs.Cache.{Slot, free, held, HeldBy, isHeldBy, fileIn, InSlot, slotOf, orRefused, fetchIn}
 use Rattle.cache.specs.Lent.{Lent, Taken, instanceAt, lengthAt, slotSize, Good, slotAt, slotsUpTo}
-use Rattle.cache.specs.Meaning.{cacheOf, fetchAnswer, inBuffer}
+use Rattle.cache.specs.Meaning.{fetchAnswer, inBuffer}
 use Rattle.cache.specs.Owners.{Is, FirstRow}
 use Rattle.cache.specs.Calls.{Fetched, FetchPost}
 use Rattle.cache.proofs.LawsLowest.{Found, LowestAt, lowest-found}

@@ -8,6 +8,7 @@ use mathlib.Core.List.{List}
 use lib.ListN.{length, getD}
 use Rattle.exact.specs.Choice.{choose}
 use Rattle.enums.specs.Refusals as refusals
+use Rattle.format.specs.Tables.{Tables}
 use Rattle.format.specs.Read.{Read, accepted, refused}
 use Rattle.format.specs.Decode.{mostBytes, placed, onlyTables, decode}
 use Rattle.format.proofs.Decoded.{accepted-value, refused-not-accepted, placed-sound, map-inv}
@@ -41,6 +42,11 @@ choose-inv : {P A : Type 0} (d : Dec P) (r : Read A) (c n i : ℕ) (v : A) → c
 unfolding choose
 choose-inv (yes p) r c n i v e = (p, e)
 choose-inv (no h) r c n i v e = absurd (refused-not-accepted e)
+
+-- A file that passes is within the limit.
+pub decode-within : (file : List ℕ) (t : Tables) → decode file ≡ accepted t → length file ≤ mostBytes
+unfolding decode
+decode-within file t e = let (x, h, _) = map-inv onlyTables (placed file) t e in placed-sound file x h .0
 
 -- The lowest slot that was found ..
 pub found-at : {P : Slot → Type 0} {c : List Slot} {k : ℕ} → Found P c (some k) → LowestAt P c k
@@ -124,10 +130,9 @@ module _ (n : ℕ) (s : Lent) where
     -- An accepted put has found that or a free one, and room in it.
     pub put-found : (file : List ℕ) → putAnswer n i file s ≡ accepted k →
         Good n s × Own n i s k × (length file ≤ mostBytes) × (length file ≤ slotSize n (s .buffer))
-    unfolding putIn decode
+    unfolding putIn
     put-found file e =
         let (g, q) = answered n s (putIn (slotSize n (s .buffer)) i file) k e in
         let (t, d, r) = then-inv (decode file) _ k q in
         let (fits, o) = choose-inv (decLe (length file) (slotSize n (s .buffer))) _ _ _ _ k r in
-        let (x, p, _) = map-inv onlyTables (placed file) t d in
-        (g, own-either g (slotOf i slots) refl (or-refused-inv refusals.noSlot (slotFor i slots) k o), placed-sound file x p .0, fits)
+        (g, own-either g (slotOf i slots) refl (or-refused-inv refusals.noSlot (slotFor i slots) k o), decode-within file t d, fits)

@@ -1,11 +1,11 @@
 -- How a cache is judged, and how a slot is found by the rows: as the model has it. Assumes nothing.
 use mathlib.Core.Path.{_≡_, refl, sym, ap, subst, _∙_}
-use Prim.Native.Nat.{ℕ, _+_, _*_, _/_, _%_, _≤_, _<_}
+use Prim.Native.Nat.{ℕ, _/_, _%_, _≤_, _<_}
 use native.Mathlib.Nat.{div-add-mod, mul-mod-right}
 use native.Mathlib.Omega.{arith}
 use native.Mathlib.Decide.{decLt}
-use mathlib.Core.Bool.{Bool, true, false}
-use mathlib.Core.Option.{Option, none, some}
+use mathlib.Core.Bool.{Bool, false}
+use mathlib.Core.Option.{none, some}
 use mathlib.Core.List.{List}
 use lib.ListN.{length, getD}
 use Rattle.exact.specs.Choice.{choose}
@@ -13,7 +13,7 @@ use Rattle.exact.proofs.LawsChoice.{choose-yes, choose-no}
 use Rattle.encoding.specs.Out.{Tells}
 use Rattle.cache.specs.declared.owners.Wanted.the-variants as wanted
 use Rattle.cache.specs.Cache.{Slot, free, Free, isFree, isHeldBy, lowest, slotOf, orElse}
-use Rattle.cache.specs.Lent.{Lent, markAt, slotSize, Rows, Good, slotAt, slotsUpTo}
+use Rattle.cache.specs.Lent.{Lent, markAt, Rows, Good, slotAt, slotsUpTo}
 use Rattle.cache.specs.Owners.{Is, FirstRow, Judged, asSlot, SlotFor}
 use Rattle.cache.proofs.LawsLowest.{found, nowhere, lowest-is}
 use Rattle.cache.proofs.LawsSlots.{length-slots, slots-at}

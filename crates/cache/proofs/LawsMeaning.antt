@@ -17,29 +17,22 @@ use Rattle.cache.specs.Meaning.{cacheOf, ofCache, putAnswer, dropAnswer,
 use Rattle.cache.specs.Calls.{SlotKept, SlotCleared}
 use Rattle.cache.proofs.LawsTable.{row-put}
 use Rattle.cache.proofs.LawsSlots.{filled, slot-inside, slot-put}
-use Rattle.cache.proofs.LawsStored.{stored-means, stored-kept, stored-buffer, stored-owners, stored-size}
+use Rattle.cache.proofs.LawsStored.{cache-good, stored-means, stored-kept, stored-size}
 use Rattle.cache.proofs.LawsFound.{put-found, drop-found}
-pub use Rattle.cache.proofs.LawsStored.{good-cache, bad-cache, cache-good}
 
--- As long as they were.
-pub record SizeKept (n : ℕ) (s s' : Lent) : Type 0 where
-  pub of-buffer : length (s' .buffer) ≡ length (s .buffer)
-  pub of-owners : length (s' .owners) ≡ length (s .owners)
-  pub of-slots : slotSize n (s' .buffer) ≡ slotSize n (s .buffer)
-
--- The calls keep the lengths, and so the slots' size.
-pub size-kept : (n : ℕ) (bs ws : List ℕ) (s : Lent) (r : Read ℕ) → SizeKept n s (afterwards (stored n bs ws s) s r)
+-- The calls keep the slots' size ..
+size-kept : (n : ℕ) (bs ws : List ℕ) (s : Lent) (r : Read ℕ) →
+    slotSize n (afterwards (stored n bs ws s) s r .buffer) ≡ slotSize n (s .buffer)
 unfolding afterwards
-size-kept n bs ws s (accepted k) =
-    record { of-buffer = stored-buffer n bs ws s k; of-owners = stored-owners n bs ws s k; of-slots = stored-size n bs ws s k }
-size-kept n bs ws s (refused a b c) = record { of-buffer = refl; of-owners = refl; of-slots = refl }
+size-kept n bs ws s (accepted k) = stored-size n bs ws s k
+size-kept n bs ws s (refused a b c) = refl
 
--- The slots' size after a put, and after a drop.
+-- .. so do a put and a drop.
 pub put-size : (n i : ℕ) (file : List ℕ) (s : Lent) → slotSize n (putLent n i file s .buffer) ≡ slotSize n (s .buffer)
-put-size n i file s = size-kept n file _ s (putAnswer n i file s) .of-slots
+put-size n i file s = size-kept n file _ s (putAnswer n i file s)
 
 pub drop-size : (n i : ℕ) (s : Lent) → slotSize n (dropLent n i s .buffer) ≡ slotSize n (s .buffer)
-drop-size n i s = size-kept n [] _ s (dropAnswer n i s) .of-slots
+drop-size n i s = size-kept n [] _ s (dropAnswer n i s)
 
 -- A slot anew, if the call was accepted with one.
 anew-means : (n : ℕ) (f : ℕ → Lent) (s : Lent) (x : Slot) (c : List Slot) (r : Read ℕ) → cacheOf n s ≡ some c →

@@ -6,6 +6,8 @@ pub mod LawsStored
 pub mod LawsFound
 pub mod LawsMeaning
 pub mod Others
+pub mod Empty
+pub mod Examples
 pub mod LawsCache
 pub mod LawsHistory
 pub mod FetchOwn

@@ -2,7 +2,7 @@
 -- history from an empty cache. Assumes nothing.
 use mathlib.Core.Path.{_≡_, refl, sym, ap, _∙_, subst}
 use mathlib.Core.Bool.{true≢false}
-use Prim.Native.Nat.{ℕ, _≤_, _<_}
+use Prim.Native.Nat.{ℕ, _<_}
 use native.Mathlib.Omega.{arith}
 use native.Mathlib.Decide.{decLe, decLt}
 use mathlib.Core.Option.{Option, none, some}
@@ -13,10 +13,10 @@ use Rattle.exact.proofs.LawsChoice.{choose-yes}
 use Rattle.enums.specs.Refusals as refusals
 use Rattle.format.specs.Tables.{Tables}
 use Rattle.format.specs.Read.{Read, accepted, refused}
-use Rattle.format.specs.Decode.{mostBytes, placed, onlyTables, decode}
+use Rattle.format.specs.Decode.{decode}
 use Rattle.format.specs.Views.{andThen}
 use Rattle.format.specs.Refusals.{Listed, refused-so}
-use Rattle.format.proofs.Decoded.{refused-not-accepted, map-inv, placed-sound, decode-sound, decode-complete}
+use Rattle.format.proofs.Decoded.{refused-not-accepted, decode-sound, decode-complete}
 use Rattle.format.proofs.Refused.{decode-listed}
 use Rattle.cache.specs.Cache.{Slot, free, HeldBy, Free, isHeldBy, isFree, lowest, slotOf, orElse, slotFor, orRefused, putIn}
 use Rattle.cache.specs.Lent.{Lent, Taken, markAt, slotSize, slotAt}
@@ -25,7 +25,7 @@ use Rattle.cache.specs.History.{Call, putting, slot, answer, run, told, 
 use Rattle.cache.proofs.LawsLowest.{NoneSuch, Found, nowhere, lowest-found, lowest-is}
 use Rattle.cache.proofs.LawsSlots.{slots-at}
 use Rattle.cache.proofs.LawsStored.{free-slot}
-use Rattle.cache.proofs.LawsFound.{none-at, of-free}
+use Rattle.cache.proofs.LawsFound.{decode-within, none-at, of-free}
 use Rattle.cache.proofs.LawsCache.{Has, has-file, has-none, is-held, held-inside, slot-none, puts}
 use Rattle.cache.proofs.LawsHistory.{slots-are, slots-many, Holds, empty-holds, run-holds}
 
@@ -53,11 +53,6 @@ or-none : (a b : Option ℕ) → orElse a b ≡ none → (a ≡ none) × (b ≡ 
 unfolding orElse
 or-none none b e = (refl, e)
 or-none (some k) b e = let z : _≡_ {A = ℕ} 0 1 = cc in absurd (omega arith)
-
--- A file that passes is within the limit.
-decode-within : (file : List ℕ) (t : Tables) → decode file ≡ accepted t → length file ≤ mostBytes
-unfolding decode
-decode-within file t e = let (x, h, _) = map-inv onlyTables (placed file) t e in placed-sound file x h .0
 
 -- An instance has no file exactly if it holds no slot ..
 none-held : (i : ℕ) (c : List Slot) {f : Option (List ℕ)} → Has i c f → (slotOf i c ≡ none → f ≡ none) × (f ≡ none → slotOf i c ≡ none)

@@ -13,7 +13,7 @@ use Rattle.format.specs.Explains.{Explains}
 use Rattle.format.specs.Read.{Read, accepted, refused, mapRead}
 use Rattle.format.specs.Decode.{mostBytes}
 use Rattle.format.specs.Views.{Span, constantView}
-use Rattle.cache.specs.Cache.{Slot, free, InSlot}
+use Rattle.cache.specs.Cache.{free, InSlot}
 use Rattle.cache.specs.Lent.{Lent, Taken, slotSize}
 use Rattle.cache.specs.Meaning.{cacheOf, putAnswer, fetchAnswer, dropAnswer, putLent, dropLent}
 

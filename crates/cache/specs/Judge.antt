@@ -1,6 +1,6 @@
 -- Whether a buffer and an owner table stand for a cache can be told. (Any way of telling gives the same answer.)
-use mathlib.Core.Path.{_≡_, sym, subst}
-use Prim.Native.Nat.{ℕ, zero, suc, _*_, _≤_, _<_}
+use mathlib.Core.Path.{_≡_, subst}
+use Prim.Native.Nat.{ℕ, zero, suc, _*_, _<_}
 use native.Mathlib.Omega.{arith}
 use native.Mathlib.Decide.{ℕ-discrete, decLe, decLt, map-dec}
 use mathlib.Core.Logic.{Dec·and, Dec·not}

@@ -10,7 +10,7 @@ use lib.ListN.{length}
 use Rattle.exact.specs.Choice.{choose}
 use Rattle.encoding.specs.Out.{Tells}
 use Rattle.cache.specs.Cache.{slotFor}
-use Rattle.cache.specs.Lent.{Lent, markAt, instanceAt, Taken, Good, slotAt, slotsUpTo}
+use Rattle.cache.specs.Lent.{markAt, instanceAt, Taken, Good, slotAt, slotsUpTo}
 use Rattle.cache.specs.declared.owners.Wanted.{Wanted}
 use Rattle.cache.specs.declared.owners.Wanted.the-variants as wanted
 
