@@ -1,5 +1,4 @@
 -- `fill_slot` puts bytes and clears the rest of the slot. Assumes nothing.
-use native.Mathlib.Omega.{arith}
 use borrow.Author.Needs.{needs}
 use Rattle.cache.proofs.LawsCalls.{filled-up}
 use Rattle.cache.proofs.fill_slot.Statement.{statement}

@@ -1,8 +1,5 @@
 -- `judged` tells whether a buffer's length and an owner table stand for a cache. Assumes nothing.
-use mathlib.Core.Path.{_≡_, sym, ap}
-use Prim.Native.Nat.{ℕ, _*_, _/_, _%_, _≤_, _<_}
 use native.Mathlib.Omega.{arith}
-use lib.ListN.{length}
 use borrow.Author.Needs.{needs}
 use Rattle.cache.proofs.LawsJudged.{judged-rows, judged-not, no-multiple}
 use Rattle.cache.proofs.judged.Statement.{statement}

@@ -1,8 +1,6 @@
 -- `put_accepted` puts a file that is accepted, if it fits and there is a slot. Assumes nothing.
-use mathlib.Core.Path.{_≡_, sym, ap, _∙_}
-use Prim.Native.Nat.{_+_, _*_, _≤_, _<_}
+use mathlib.Core.Path.{sym, ap, _∙_}
 use native.Mathlib.Omega.{arith}
-use lib.ListN.{length}
 use borrow.Author.Needs.{needs}
 use Rattle.cache.specs.declared.SlotRead.the-variants as slot
 use Rattle.cache.specs.Calls.{slotRead}

@@ -1,12 +1,11 @@
 -- `rows_good` tells whether the rows are good: in its loop, those so far are, and their instances are marked as seen.
 -- Assumes nothing.
-use mathlib.Core.Path.{_≡_, refl, sym, ap, subst, _∙_}
-use Prim.Native.Nat.{ℕ, _+_, _-_, _*_, _≤_, _<_}
+use mathlib.Core.Path.{_≡_, refl, subst, _∙_}
+use Prim.Native.Nat.{_-_, _≤_}
 use native.Mathlib.Omega.{arith}
 use mathlib.Core.Logic.{⊎-elim}
-use mathlib.Core.Bool.{Bool, true, false}
-use mathlib.Core.List.{List}
-use lib.ListN.{length, getD, length-set, length-replicate}
+use mathlib.Core.Bool.{false}
+use lib.ListN.{getD}
 use borrow.Author.Needs.{needs}
 use Rattle.cache.proofs.LawsOwners.{
   tells-yes,
@@ -88,7 +87,8 @@ loop-again c =
       ⊎-elim
           (λ w. taken-turn (l .inv .1) _ _ _ (w .3 .ensures) (w .4 .ensures) (w .6) (omega (arith, w .1 .ensures, w .2 .left))
           (⊎-elim (λ v. none-earlier (v .1 .ensures) (λ h. omega (arith, h, v .2 .left)))
-          (λ v. unseen _ (l .seen) _ _ (l .inv .1 .marks) (subst (λ b. getD (l .seen) b false ≡ false) (w .4 .ensures) (v .left))) (w .5 .came)))
+          (λ v. unseen _ (l .seen) _ _ (l .inv .1 .marks)
+          (subst (λ b. getD (l .seen) b false ≡ false) (w .4 .ensures) (v .left))) (w .5 .came)))
           (λ w. free-turn (l .inv .1) _ (omega (arith, w .0 .left, m)) (w .1))
           (c .if1 .came),
     )
