@@ -3,7 +3,7 @@
 # make command: build/tikomuci, which shows and checks files.
 # make library: build/libtikomuci.a, for this machine's processor.
 # make install: the library, its headers and the command, below PREFIX; make uninstall removes them.
-# make bench: our calls beside encoding.rs, decoder.rs and a plain reader and writer in Rust.
+# make bench: our calls beside encoding.rs, decoder.rs, a plain reader and writer in Rust, and a map in C++.
 # make comparison: our calls compared with the Rust on made files (SEED=n for other ones).
 # make fuzz: tries the calls on arbitrary bytes for a minute (FUZZ_SECONDS=n).
 # make sanitizers: the tests and the corpus under AddressSanitizer and UndefinedBehaviorSanitizer.
@@ -44,10 +44,13 @@ CFLAGS ?= -O2
 CXXFLAGS ?= -O2
 c99 = $(cc) -std=c99 $(or $(checks),$(CFLAGS)) $(WARNINGS) -Iinclude
 c++20 = $(cxx) -std=c++20 $(or $(checks),$(CXXFLAGS)) $(WARNINGS) -Iinclude
-link = $(cxx) $(or $(checks),$(LDFLAGS)) $(filter %.o %.a,$^) -o $@
+link = $(cxx) $(or $(checks),$(LDFLAGS)) $(filter %.o %.a,$^) -o $@ $(names)
 
 TESTS := $(patsubst hosts/cpp/%.cpp,%.o,$(wildcard hosts/cpp/tests/*_tests.cpp)) tests/header.o
 COMMAND := $(patsubst %.cpp,%.o,$(wildcard command/*.cpp))
+# How many calls each of sixty threads makes on one cache, and the files that they put.
+SESSION_CALLS := 1700
+SESSION_FILES := hosts/files/*.tileirbc hosts/files/hints/*.tileirbc
 
 # The gate's steps come one after the other, whatever -j says; the parts of the last, which share nothing that they
 # write, go two at a time.
@@ -65,9 +68,10 @@ test: build/setup
 	tools/timed "hosts, two parts at a time" $(MAKE) $(TWO) $(PARTS) FUZZ_SECONDS=30
 	@cat build/times
 
-demo: proofs build/demo build/example
+demo: proofs build/demo build/example build/session
 	build/demo
 	build/example
+	build/session
 
 proofs: build/setup
 	$(ALONE) $(RT) check
@@ -80,12 +84,14 @@ verdict: build/setup
 
 command: build/tikomuci
 
-cpp-tests: build/all_tests build/tikomuci
+cpp-tests: build/all_tests build/session build/session_threads build/tikomuci
 	$(CXX) -std=c++11 $(WARNINGS) -fsyntax-only -x c++ include/tikomuci.h
 	for standard in c++17 c++20; do hosts/cpp/tests/must-not-compile $(CXX) -std=$$standard; done
 	hosts/cpp/tests/abi $(LIBRARY) $(CC) $(CXX)
 	hosts/cpp/tests/readme $(LIBRARY) -- $(CXX) -std=c++17 -O2 $(WARNINGS)
 	tools/timed "C++ tests" build/all_tests
+	tools/timed "sixty threads on one cache" build/session_threads $(SESSION_CALLS) $(SESSION_FILES)
+	build/session >/dev/null
 	tools/timed "command tests" command/tests build/tikomuci
 
 emulated-tests: build/x86-64/all_tests build/x86-64/tikomuci
@@ -108,7 +114,7 @@ endif
 
 bench: $(LIBRARY) | build/setup
 ifneq ($(HAS_RUST),)
-	cargo run $(IN_RUST) --release --package bench
+	CXX='$(CXX)' cargo run $(IN_RUST) --release --package bench
 else
 	@echo "no Rust source at $(RUST_SOURCE): there is nothing to measure against" >&2; exit 1
 endif
@@ -134,9 +140,12 @@ clean:
 define programs
 $(1)/demo: $(1)/examples/demo.o $(2)
 $(1)/example: $(1)/examples/example.o $(2)
+$(1)/session: $(1)/examples/session.o $(2)
 $(1)/all_tests: $(TESTS:%=$(1)/%) $(2)
+$(1)/threads: $(1)/tests/threads.o $(2)
+$(1)/session_threads: $(1)/tests/session_threads.o $(2)
 $(1)/tikomuci: $(COMMAND:%=$(1)/%) $(2)
-$(1)/demo $(1)/example $(1)/all_tests $(1)/tikomuci:
+$(1)/demo $(1)/example $(1)/session $(1)/all_tests $(1)/threads $(1)/session_threads $(1)/tikomuci:
 	$$(link)
 
 $(1)/%.o: hosts/cpp/%.cpp $(1)/flags | build/setup

@@ -15,11 +15,17 @@ const std::string_view HELP =
     "tikomuci constant [--json] FILE N -o OUT         those of constant N\n"
     "tikomuci body [--json] FILE N -o OUT             those of the body of function N\n"
     "tikomuci section [--json] FILE SECTION -o OUT    those of the payload of a section, by its name or its id\n"
+    "tikomuci cache [--json] OWNERS BUFFER            shows who holds which slot of a cache, by its two stores\n"
+    "tikomuci cache-demo [--json] [-o OUT] FILE..     puts files into a cache, and shows who holds which slot\n"
     "tikomuci --help                                  prints this\n"
     "tikomuci --version                               prints the version\n"
     "\n"
     "A FILE may be a pipe, and - is standard input. -o - is standard output; another OUT is replaced when all bytes\n"
     "are written. With --json each FILE gets one line with one object. Behind -- nothing is an option.\n"
+    "\n"
+    "cache-demo puts its first FILE for instance 1, the second for 2, and so on; INSTANCE=FILE names another. With -o\n"
+    "its two stores are written to OUT.owners and OUT.buffer. With --json both calls print a line for each slot that\n"
+    "is taken, too.\n"
     "\n"
     "Exit status, of several files the highest:\n"
     "  0  all was accepted\n"
@@ -32,7 +38,8 @@ const std::string_view HELP =
 namespace {
 
 // In the order of the verbs.
-constexpr std::array<std::string_view, 6> WORDS = {"show", "check", "string", "constant", "body", "section"};
+constexpr std::array<std::string_view, 8> WORDS = {"show", "check",   "string", "constant",
+                                                   "body", "section", "cache",  "cache-demo"};
 
 // The words and options, before anybody asks what they mean.
 struct Line {
@@ -97,15 +104,44 @@ std::optional<std::uint64_t> number_of(const std::string &text) {
     return error == std::errc{} && stop == end ? std::optional(value) : std::nullopt;
 }
 
-// `show` and `check`: any number of files, and no OUT.
+void refuse_out(const Line &line) {
+    if (line.out) {
+        throw Misuse{line.words[0] + " takes no -o"};
+    }
+}
+
+// Any number of files.
 void take_files(Call &call, const Line &line) {
     if (line.words.size() < 2) {
         throw Misuse{line.words[0] + " takes a FILE or more"};
     }
-    if (line.out) {
-        throw Misuse{line.words[0] + " takes no -o"};
-    }
     call.files.assign(line.words.begin() + 1, line.words.end());
+}
+
+// `cache`: the two stores.
+void take_stores(Call &call, const Line &line) {
+    if (line.words.size() != 3) {
+        throw Misuse{line.words[0] + " takes OWNERS and BUFFER"};
+    }
+    if (line.words[1] == "-" && line.words[2] == "-") {
+        throw Misuse{"standard input cannot be both OWNERS and BUFFER"};
+    }
+    call.files = {line.words[1]};
+    call.buffer = line.words[2];
+}
+
+// `cache-demo`: whose each file is. A number before a `=` says it; else it is the file's own, counted from 1.
+void take_instances(Call &call, const Line &line) {
+    if (line.out == "-") {
+        throw Misuse{"standard output cannot take two stores"};
+    }
+    for (std::string &file : call.files) {
+        const std::size_t end = file.find('=');
+        const auto named = end != std::string::npos ? number_of(file.substr(0, end)) : std::nullopt;
+        call.instances.push_back(named ? *named : call.instances.size() + 1);
+        file.erase(0, named ? end + 1 : 0);
+    }
+    call.stores = line.out;
 }
 
 // The others: a file, which part of it, and OUT.
@@ -144,10 +180,22 @@ Call understood(const std::vector<std::string> &arguments) {
         return call;
     }
     call.verb = verb_of(line);
-    if (call.verb == Verb::Show || call.verb == Verb::Check) {
-        take_files(call, line);
-    } else {
-        take_part(call, line);
+    switch (call.verb) {
+        case Verb::Show:
+        case Verb::Check:
+            refuse_out(line);
+            take_files(call, line);
+            break;
+        case Verb::Cache:
+            refuse_out(line);
+            take_stores(call, line);
+            break;
+        case Verb::CacheDemo:
+            take_files(call, line);
+            take_instances(call, line);
+            break;
+        default:
+            take_part(call, line);
     }
     return call;
 }

@@ -1,6 +1,7 @@
 #include "container.hpp"
 
 #include <algorithm>
+#include <new>
 
 namespace command {
 
@@ -113,6 +114,14 @@ Bytes Container::first_bytes() const { return file_.first(std::min<std::size_t>(
 
 std::optional<std::uint64_t> Container::counting(std::uint64_t id) const {
     return id < last_.size() ? last_[id] : std::nullopt;
+}
+
+tikomuci::Got<tikomuci::Tables> tables_of(Bytes file) {
+    auto tables = tikomuci::read(file);
+    if (tables.outcome().refusal == tikomuci::Refusal::Memory) {
+        throw std::bad_alloc();
+    }
+    return tables;
 }
 
 std::uint64_t constants_at(Bytes file, const tikomuci::Sheet &sheet) {

@@ -97,6 +97,9 @@ class Container {
     std::array<std::optional<std::uint64_t>, TIKOMUCI_SECTION_PRODUCER + 1> last_;
 };
 
+/// The tables of a file, or its refusal. Throws std::bad_alloc if there is no memory for them.
+tikomuci::Got<tikomuci::Tables> tables_of(tikomuci::Bytes file);
+
 /// Where the first constant begins of a file that has this sheet: they lie end to end, and the last ends with its
 /// section.
 std::uint64_t constants_at(tikomuci::Bytes file, const tikomuci::Sheet &sheet);

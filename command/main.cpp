@@ -1,4 +1,4 @@
-// The command `tikomuci`: shows and checks files of Tile IR bytecode, and takes parts out of them.
+// The command `tikomuci`: shows and checks files of Tile IR bytecode, takes parts out of them, and shows caches.
 
 #include <fcntl.h>
 #include <unistd.h>

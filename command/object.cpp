@@ -117,14 +117,18 @@ void put_table(Json &json, std::string_view name, const Table &table, Put put) {
     json.close(']');
 }
 
+void put_constants(Json &json, const Sheet &sheet, std::uint64_t constants_at) {
+    put_table(json, "constants", sheet.constants(), [&](Bytes constant) {
+        put_constant(json, constant, std::exchange(constants_at, constants_at + constant.size()));
+    });
+}
+
 void put_tables(Json &json, const Sheet &sheet, std::uint64_t constants_at) {
     const auto put = [&](const auto &row) { put_row(json, row); };
     json.key("producer").number(sheet.producer());
     put_table(json, "strings", sheet.strings(), [&](Bytes string) { json.text(string); });
     put_table(json, "types", sheet.types(), put);
-    put_table(json, "constants", sheet.constants(), [&](Bytes constant) {
-        put_constant(json, constant, std::exchange(constants_at, constants_at + constant.size()));
-    });
+    put_constants(json, sheet, constants_at);
     put_table(json, "globals", sheet.globals(), put);
     put_table(json, "functions", sheet.functions(), put);
     put_table(json, "attributes", sheet.attributes(), put);
@@ -178,6 +182,11 @@ void put_container(Json &json, const Container &container) {
     }
 }
 
+void put_place(Json &json, const Held &held) {
+    json.key("instance").number(held.instance).key("slot").number(held.slot);
+    json.key("offset").number(held.offset).key("length").number(held.file.size());
+}
+
 }  // namespace
 
 void put_failure(Sink &out, std::string_view name, const Failure &failure) {
@@ -216,6 +225,44 @@ void put_view(Sink &out, std::string_view name, std::string_view key, std::uint6
     Json json = accepted(out, name);
     json.key(key).number(number).key("offset").number(offset);
     put_sum(json, bytes);
+    end(out, json);
+}
+
+void put_answer(Sink &out, std::string_view name, std::uint64_t instance, const tikomuci_answer &answer) {
+    const tikomuci::Outcome outcome = tikomuci::outcome_of(answer);
+    Json json = outcome ? accepted(out, name) : refused(out, name, outcome);
+    json.key("instance").number(instance);
+    if (outcome) {
+        json.key("slot").number(answer.first);
+    }
+    end(out, json);
+}
+
+void put_cache(Sink &out, std::string_view owners, std::string_view buffer, const Cache &cache, std::size_t taken) {
+    Json json = accepted(out, owners);
+    json.key("buffer").text(buffer).key("slots").number(cache.slots());
+    json.key("slot_size").number(cache.slot_size()).key("taken").number(taken);
+    end(out, json);
+}
+
+void put_cache(Sink &out, std::string_view owners, std::string_view buffer, tikomuci::Outcome outcome,
+               const std::vector<std::string> &faults) {
+    Json json = refused(out, owners, outcome);
+    json.key("buffer").text(buffer);
+    put_table(json, "faults", faults, [&](std::string_view fault) { json.text(fault); });
+    end(out, json);
+}
+
+void put_held(Sink &out, std::string_view name, const Held &held, tikomuci::Outcome outcome) {
+    Json json = refused(out, name, outcome);
+    put_place(json, held);
+    end(out, json);
+}
+
+void put_held(Sink &out, std::string_view name, const Held &held, const Sheet &sheet, std::uint64_t constants_at) {
+    Json json = accepted(out, name);
+    put_place(json, held);
+    put_constants(json, sheet, constants_at);
     end(out, json);
 }
 

@@ -2,8 +2,11 @@
 #ifndef TIKOMUCI_COMMAND_OBJECT_HPP
 #define TIKOMUCI_COMMAND_OBJECT_HPP
 
+#include <string>
 #include <string_view>
+#include <vector>
 
+#include "cache.hpp"
 #include "container.hpp"
 #include "sink.hpp"
 #include "status.hpp"
@@ -30,6 +33,23 @@ void put_shown(Sink &out, std::string_view name, const Container &container, con
 /// A part of a file: what it is (`key` and `number`), where, and its checksum.
 void put_view(Sink &out, std::string_view name, std::string_view key, std::uint64_t number, std::uint64_t offset,
               tikomuci::Bytes bytes);
+
+/// A file that was put for an instance: its slot, or its refusal.
+void put_answer(Sink &out, std::string_view name, std::uint64_t instance, const tikomuci_answer &answer);
+
+/// The stores of a cache that are accepted.
+void put_cache(Sink &out, std::string_view owners, std::string_view buffer, const Cache &cache, std::size_t taken);
+
+/// The stores of a cache that are refused, and why, in words.
+void put_cache(Sink &out, std::string_view owners, std::string_view buffer, tikomuci::Outcome refused,
+               const std::vector<std::string> &faults);
+
+/// A slot that holds a file that is refused.
+void put_held(Sink &out, std::string_view name, const Held &held, tikomuci::Outcome refused);
+
+/// A slot that holds a file that is accepted, and its constants.
+void put_held(Sink &out, std::string_view name, const Held &held, const tikomuci::Sheet &sheet,
+              std::uint64_t constants_at);
 
 }  // namespace command::object
 

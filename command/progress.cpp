@@ -83,7 +83,7 @@ void Progress::watch(const std::stop_token &stop) {
 void Progress::put_line() {
     std::array<char, WIDTH> of_files{};
     std::array<char, WIDTH> amount{};
-    if (files_ > 1) {
+    if (files_ > 1 && file_ <= files_) {
         std::snprintf(of_files.data(), of_files.size(), "file %zu of %zu, ", file_, files_);
     }
     if (total_ != 0) {

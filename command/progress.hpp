@@ -15,10 +15,10 @@ namespace command {
 /// is neither line nor thread if standard error is no terminal.
 class Progress {
   public:
-    /// For so many files, one after the other.
+    /// For so many files, one after the other. What is begun behind the last of them has no number.
     explicit Progress(std::size_t files);
 
-    /// A file is begun.
+    /// A file is begun, or what comes behind all of them.
     void begin();
 
     /// What is done to it from now on, and how many bytes that takes; 0 if nobody knows.

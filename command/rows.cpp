@@ -250,4 +250,14 @@ void put_rows(Sink &out, const Sheet &sheet, std::uint64_t constants_at) {
     put_table(rows, "debug lists", sheet.lists(), put);
 }
 
+void put_constants(Sink &out, const Sheet &sheet, std::uint64_t constants_at) {
+    Rows rows(out, sheet);
+    std::uint64_t number = 0;
+    for (const Bytes constant : sheet.constants()) {
+        rows.put("      constant ", number++, ": ").run(constant, constants_at).put('\n');
+        constants_at += constant.size();
+    }
+    rows.put(number == 0 ? "      no constants\n" : "");
+}
+
 }  // namespace command::text

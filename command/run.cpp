@@ -1,13 +1,13 @@
 #include "run.hpp"
 
 #include <algorithm>
-#include <new>
 #include <utility>
 
+#include "caches.hpp"
 #include "container.hpp"
-#include "escape.hpp"
 #include "input.hpp"
 #include "object.hpp"
+#include "session.hpp"
 #include "text.hpp"
 
 namespace command {
@@ -15,17 +15,6 @@ namespace command {
 namespace {
 
 using tikomuci::Bytes;
-
-/// One call of the command.
-struct Session {
-    const Call &call;
-    Progress &progress;
-    Sink &out;
-    Sink &errors;
-    bool shown = false;  // whether a file was, as text
-};
-
-using File = std::vector<std::uint8_t>;
 
 Status refused(Session &session, const std::string &name, tikomuci::Outcome outcome) {
     if (session.call.json) {
@@ -56,10 +45,7 @@ Status show_refused(Session &session, const std::string &name, const Container &
 Status show(Session &session, const std::string &name) {
     const File file = read_file(name, session.progress);
     session.progress.now("judging");
-    const auto tables = tikomuci::read(file);
-    if (tables.outcome().refusal == tikomuci::Refusal::Memory) {
-        throw std::bad_alloc();
-    }
+    const auto tables = tables_of(file);
     const Container container(file);
     session.progress.now_printing();
     if (!tables) {
@@ -124,16 +110,7 @@ Status write_part(Session &session, const std::string &name) {
     return Status::Accepted;
 }
 
-Status failed(Session &session, const std::string &name, const Failure &failure) {
-    if (session.call.json) {
-        object::put_failure(session.out, name, failure);
-    }
-    session.errors << "tikomuci: " << escaped(failure.path) << ": " << failure.why << '\n';
-    return failure.status;
-}
-
 Status done(Session &session, const std::string &name) {
-    const Busy busy(session.progress);
     switch (session.call.verb) {
         case Verb::Show:
             return show(session, name);
@@ -142,21 +119,6 @@ Status done(Session &session, const std::string &name) {
         default:
             return write_part(session, name);
     }
-}
-
-// What is said of a file is seen before the next one is read.
-Status done_or_failed(Session &session, const std::string &name) {
-    Status status = Status::Memory;
-    try {
-        status = done(session, name);
-    } catch (const Failure &failure) {
-        status = failed(session, name, failure);
-    } catch (const std::bad_alloc &) {
-        status = failed(session, name, {Status::Memory, name, "there is not enough memory"});
-    }
-    session.out.flush();
-    session.errors.flush();
-    return status;
 }
 
 }  // namespace
@@ -170,9 +132,15 @@ Status run(const Call &call, Sink &errors) {
         out.flush();
         return Status::Accepted;
     }
+    if (call.verb == Verb::Cache) {
+        return show_cache(session);
+    }
+    if (call.verb == Verb::CacheDemo) {
+        return demonstrate_cache(session);
+    }
     Status status = Status::Accepted;
     for (const std::string &name : call.files) {
-        status = std::max(status, done_or_failed(session, name));
+        status = std::max(status, done_or_failed(session, name, [&] { return done(session, name); }));
     }
     return status;
 }

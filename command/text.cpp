@@ -80,10 +80,8 @@ void put_sections(Sink &out, const Container &container, const Walk &walk, bool 
     }
 }
 
-}  // namespace
-
-void put_verdict(Sink &out, std::string_view name, tikomuci::Outcome outcome) {
-    out << escaped(name);
+// The end of a line that says of what it is.
+void put_outcome(Sink &out, tikomuci::Outcome outcome) {
     if (outcome) {
         out << ": accepted\n";
         return;
@@ -93,6 +91,37 @@ void put_verdict(Sink &out, std::string_view name, tikomuci::Outcome outcome) {
         out << ", " << tikomuci::stage_text(outcome.stage);
     }
     out << " (refusal " << number_of(outcome.refusal) << ", stage " << number_of(outcome.stage) << ")\n";
+}
+
+}  // namespace
+
+void put_verdict(Sink &out, std::string_view name, tikomuci::Outcome outcome) {
+    out << escaped(name);
+    put_outcome(out, outcome);
+}
+
+void put_answer(Sink &out, std::string_view name, std::uint64_t instance, const tikomuci_answer &answer) {
+    out << escaped(name) << ", instance " << instance;
+    if (answer.refusal == 0) {
+        out << ", slot " << answer.first;
+    }
+    put_outcome(out, tikomuci::outcome_of(answer));
+}
+
+void put_slots(Sink &out, const Cache &cache, std::size_t taken) {
+    out << cache.slots() << " slots of " << Length{cache.slot_size()} << ", " << taken << " taken\n";
+}
+
+void put_faults(Sink &out, const std::vector<std::string> &faults) {
+    for (const std::string &fault : faults) {
+        out << "  " << fault << '\n';
+    }
+}
+
+void put_held(Sink &out, std::string_view name, const Held &held, tikomuci::Outcome outcome) {
+    out << "  [" << held.slot << "] instance " << held.instance << ", " << Length{held.file.size()} << " at "
+        << held.offset << (name.empty() ? "" : ", ") << escaped(name);
+    put_outcome(out, outcome);
 }
 
 void put_container(Sink &out, const Container &container, bool accepted) {

@@ -103,7 +103,7 @@ static uint64_t (*const tikomuci_abi_reference)(void) TIKOMUCI_KEPT = tikomuci_a
 #define TIKOMUCI_MAX_POOL_BYTES UINT64_C(1073741824)
 #define TIKOMUCI_MAX_SHEET_WORDS UINT64_C(67108864)
 
-/* The refusal numbers. Each is given by a call of this header, but for the last two: those are the C++ headers' own. */
+/* The refusal numbers. Each is given by a call of this header; those from 1000 on are the C++ headers' own. */
 enum {
     TIKOMUCI_REFUSAL_LIMIT = 1,      /* file, image, pool or sheet over its limit */
     TIKOMUCI_REFUSAL_SHORT = 2,      /* the data ends inside an item */
@@ -116,11 +116,13 @@ enum {
     TIKOMUCI_REFUSAL_DEBUG_TAG = 9,  /* debug tag unknown */
     TIKOMUCI_REFUSAL_HINTS = 10,     /* hints flag */
     TIKOMUCI_REFUSAL_FULL = 11,      /* a store or output is smaller than the result */
-    TIKOMUCI_REFUSAL_SHEET = 12,     /* sheet not well-formed */
+    TIKOMUCI_REFUSAL_SHEET = 12,     /* sheet or owner table not well-formed */
     TIKOMUCI_REFUSAL_START = 13,     /* a u32 start does not fit */
     TIKOMUCI_REFUSAL_ABSENT = 14,    /* asked index or section not there; patch outside */
+    TIKOMUCI_REFUSAL_NO_SLOT = 18,   /* no slot: the instance has none, and all are taken */
     TIKOMUCI_REFUSAL_OVERLAP = 1000, /* two lent spans overlap, and no call was made */
-    TIKOMUCI_REFUSAL_MEMORY = 1001   /* there is no memory for the tables */
+    TIKOMUCI_REFUSAL_MEMORY = 1001,  /* there is no memory for the tables or the cache */
+    TIKOMUCI_REFUSAL_BUSY = 1002     /* the lock of the cache is not free, and no call was made */
 };
 
 /* The stages: the limits, the parts of a file in the order in which they are read, and what comes after them. */
@@ -411,6 +413,68 @@ TIKOMUCI_CALL tikomuci_answer tikomuci_image(const uint8_t *sheet, size_t sheet_
 TIKOMUCI_CALL tikomuci_answer tikomuci_write(const uint8_t *sheet, size_t sheet_len, const uint8_t *pool,
                                              size_t pool_len, uint8_t *out, size_t out_len) TIKOMUCI_NOEXCEPT;
 
+/*
+ * The shared profile cache: a file for each instance, in slots of one lent buffer, with a lent owner table beside it.
+ * The calls tikomuci_cache_* are for 16 slots, and tikomuci_session_* are the same three for the 64 of a session.
+ *
+ * The slots are equal parts of the buffer, one behind the other. The owner table has a row of three words for each of
+ * them. The words are little-endian, and neither store need be aligned. All bytes 0 is an empty cache.
+ *
+ *     0   the mark: 0 if the slot is free, and anything else if it is taken; a put makes it 1
+ *     1   the number of the instance that holds the slot; any number will do
+ *     2   the length of the file that stands at the slot's begin
+ *
+ * Every call judges both stores first: 12 at stage 10 for a buffer that is not a multiple of the number of slots, an
+ * owner table of another number of rows, an instance in two taken rows, or a taken row with a length above the slot's.
+ * What stands behind the mark of a free row does not count.
+ *
+ * Nothing is kept but what the stores hold. As long as a host changes them only by these calls, from an empty cache on,
+ * an instance fetches from what it put last, whatever others put, dropped or were refused between. Many threads may
+ * fetch at once; a put or a drop has to be alone with the stores (ProfileCache of tikomuci_cache.hpp has a lock).
+ */
+
+/* The numbers of slots, and the bytes of a row of the owner table. */
+#define TIKOMUCI_CACHE_SLOTS 16
+#define TIKOMUCI_SESSION_SLOTS 64
+#define TIKOMUCI_OWNER_BYTES 24
+
+/*
+ * Puts a file for an instance: `first` is its slot, `second` is 0. That is the slot that the instance holds already,
+ * whose file is replaced, or else the lowest free one. The file's bytes stand at the slot's begin, the slot's other
+ * bytes become 0, and its row is written anew; other slots and rows stay. The first refusal in this order counts: 12;
+ * those of the file, as tikomuci_measure answers them; 11 at stage 10 for a file that is larger than a slot; 18 at
+ * stage 10 if the instance holds no slot and all are taken. A refused call changes neither store.
+ */
+TIKOMUCI_CALL tikomuci_answer tikomuci_cache_put(uint8_t *cache, size_t cache_len, uint8_t *owners, size_t owners_len,
+                                                 uint64_t instance, const uint8_t *file,
+                                                 size_t file_len) TIKOMUCI_NOEXCEPT;
+TIKOMUCI_CALL tikomuci_answer tikomuci_session_put(uint8_t *cache, size_t cache_len, uint8_t *owners, size_t owners_len,
+                                                   uint64_t instance, const uint8_t *file,
+                                                   size_t file_len) TIKOMUCI_NOEXCEPT;
+
+/*
+ * The constant with this number, counted from 0, of the file that an instance put: `first` is its offset in the buffer,
+ * `second` its length. Exactly the length that the row has is judged, as tikomuci_constant judges a file. The first
+ * refusal in this order counts: 12; 14 at stage 10 if the instance holds no slot; those of the file, if somebody
+ * damaged it; 14 at stage 10 for a number that no row has.
+ */
+TIKOMUCI_CALL tikomuci_answer tikomuci_cache_fetch(const uint8_t *cache, size_t cache_len, const uint8_t *owners,
+                                                   size_t owners_len, uint64_t instance,
+                                                   uint64_t index) TIKOMUCI_NOEXCEPT;
+TIKOMUCI_CALL tikomuci_answer tikomuci_session_fetch(const uint8_t *cache, size_t cache_len, const uint8_t *owners,
+                                                     size_t owners_len, uint64_t instance,
+                                                     uint64_t index) TIKOMUCI_NOEXCEPT;
+
+/*
+ * Frees the slot of an instance: `first` is the slot, `second` is 0. All bytes of the slot and of its row become 0;
+ * other slots and rows stay. The first refusal in this order counts: 12; 14 at stage 10 if the instance holds no slot.
+ * A refused call changes neither store.
+ */
+TIKOMUCI_CALL tikomuci_answer tikomuci_cache_drop(uint8_t *cache, size_t cache_len, uint8_t *owners, size_t owners_len,
+                                                  uint64_t instance) TIKOMUCI_NOEXCEPT;
+TIKOMUCI_CALL tikomuci_answer tikomuci_session_drop(uint8_t *cache, size_t cache_len, uint8_t *owners,
+                                                    size_t owners_len, uint64_t instance) TIKOMUCI_NOEXCEPT;
+
 #ifdef __cplusplus
 }
 #endif
@@ -420,11 +484,17 @@ TIKOMUCI_CALL tikomuci_answer tikomuci_write(const uint8_t *sheet, size_t sheet_
 TIKOMUCI_INLINE const char *tikomuci_refusal_name(uint64_t refusal) TIKOMUCI_NOEXCEPT {
     const char *const names[] = {"accepted", "limit",     "short", "overlong", "magic", "padding", "bounds", "producer",
                                  "type-tag", "debug-tag", "hints", "full",     "sheet", "start",   "absent"};
+    if (refusal == TIKOMUCI_REFUSAL_NO_SLOT) {
+        return "no-slot";
+    }
     if (refusal == TIKOMUCI_REFUSAL_OVERLAP) {
         return "overlap";
     }
     if (refusal == TIKOMUCI_REFUSAL_MEMORY) {
         return "memory";
+    }
+    if (refusal == TIKOMUCI_REFUSAL_BUSY) {
+        return "busy";
     }
     return refusal < sizeof names / sizeof names[0] ? names[refusal] : "unknown";
 }
@@ -443,15 +513,21 @@ TIKOMUCI_INLINE const char *tikomuci_refusal_text(uint64_t refusal) TIKOMUCI_NOE
         "a debug attribute has a tag that is not known",
         "a function has optimization hints",
         "a store or output is smaller than the result",
-        "the sheet is not well-formed",
+        "the sheet or the owner table is not well-formed",
         "a start does not fit 32 bits",
         "what was asked for is not there",
     };
+    if (refusal == TIKOMUCI_REFUSAL_NO_SLOT) {
+        return "all slots are taken by others";
+    }
     if (refusal == TIKOMUCI_REFUSAL_OVERLAP) {
         return "two lent spans overlap";
     }
     if (refusal == TIKOMUCI_REFUSAL_MEMORY) {
-        return "there is no memory for the tables";
+        return "there is no memory for the tables or the cache";
+    }
+    if (refusal == TIKOMUCI_REFUSAL_BUSY) {
+        return "the lock of the cache is not free";
     }
     return refusal < sizeof texts / sizeof texts[0] ? texts[refusal] : "no call answers this number";
 }

@@ -1,4 +1,4 @@
-// tikomuci.hpp: the calls of tikomuci.h over spans, for C++17 and later.
+// tikomuci.hpp: the calls of tikomuci.h over spans, for C++17 and later; tikomuci_cache.hpp has those of the cache.
 //
 // A Writer and a Reader keep the place between calls. A refused call leaves the place and the bytes as they were.
 // Answers are [[nodiscard]], and the value of one is reached only where it has a name: no refusal is lost by silence.
@@ -48,8 +48,10 @@ enum class Refusal : std::uint64_t {
     Sheet = TIKOMUCI_REFUSAL_SHEET,
     Start = TIKOMUCI_REFUSAL_START,
     Absent = TIKOMUCI_REFUSAL_ABSENT,
+    NoSlot = TIKOMUCI_REFUSAL_NO_SLOT,
     Overlap = TIKOMUCI_REFUSAL_OVERLAP,
     Memory = TIKOMUCI_REFUSAL_MEMORY,
+    Busy = TIKOMUCI_REFUSAL_BUSY,
 };
 
 enum class Stage : std::uint64_t {
@@ -401,7 +403,7 @@ inline Got<Size> size_of(const tikomuci_answer &answer) noexcept {
     return Size{answer.first, answer.second};
 }
 
-inline Got<std::uint64_t> image_of(const tikomuci_answer &answer) noexcept {
+inline Got<std::uint64_t> first_of(const tikomuci_answer &answer) noexcept {
     if (answer.refusal != 0) {
         return outcome_of(answer);
     }
@@ -463,7 +465,7 @@ inline Got<Bytes> view_of(View view, Bytes file, std::uint64_t number) noexcept 
 
 /// How many bytes the file of a sheet has. The sheet is judged as a whole, but for its pool.
 [[nodiscard]] inline Got<std::uint64_t> image(Input sheet) noexcept {
-    return detail::image_of(tikomuci_image(sheet.bytes().data(), sheet.bytes().size()));
+    return detail::first_of(tikomuci_image(sheet.bytes().data(), sheet.bytes().size()));
 }
 
 /// Writes the file of a sheet and its pool into a lent output; Full if that is too small, Overlap if two of the spans
@@ -475,7 +477,7 @@ inline Got<Bytes> view_of(View view, Bytes file, std::uint64_t number) noexcept 
     if (overlap(words, bytes) || overlap(words, file) || overlap(bytes, file)) {
         return OVERLAPPING;
     }
-    return detail::image_of(
+    return detail::first_of(
         tikomuci_write(words.data(), words.size(), bytes.data(), bytes.size(), file.data(), file.size()));
 }
 

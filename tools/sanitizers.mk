@@ -28,18 +28,22 @@ corpus: build/fuzz/corpus
 
 # The corpus is what our writer makes, byte for byte. No target fails on it, and no test does. The command's tests start
 # it so often that they do without the search for leaks, which takes seconds.
-sanitizers: build/fuzz/corpus $(FUZZERS) build/address/all_tests build/address/tikomuci
+sanitizers: build/fuzz/corpus $(FUZZERS) build/address/all_tests build/address/session_threads build/address/tikomuci
 	rm -rf build/fuzz/made
 	build/fuzz/corpus build/fuzz/made
 	diff -r build/fuzz/made $(CORPUS)
 	tools/timed "corpus, sanitized" hosts/cpp/fuzz/run 0 $(notdir $(FUZZERS))
 	tools/timed "C++ tests, sanitized" build/address/all_tests
+	tools/timed "sixty threads on one cache, sanitized" build/address/session_threads $(SESSION_CALLS) $(SESSION_FILES)
 	build/address/tikomuci check $(CORPUS)/file/* >/dev/null
 	ASAN_OPTIONS=detect_leaks=0 tools/timed "command tests, sanitized" command/tests build/address/tikomuci
 
 # A thread sanitizer wants its addresses where it expects them, which random ones may not be.
-threads: build/thread/threads
-	tools/timed "sixty threads" $(shell setarch -R true 2>/dev/null && echo setarch -R) $< $(CORPUS)/file/*
+IN_PLACE = $(shell setarch -R true 2>/dev/null && echo setarch -R)
+threads: build/thread/threads build/thread/session_threads
+	tools/timed "sixty threads" $(IN_PLACE) build/thread/threads $(CORPUS)/file/*
+	tools/timed "sixty threads on one cache, for races" $(IN_PLACE) build/thread/session_threads $(SESSION_CALLS) \
+	    $(SESSION_FILES)
 
 build/fuzz/corpus: build/fuzz/corpus.o $(LIBRARY)
 	$(link)
@@ -54,8 +58,7 @@ build/fuzzer/command/%: private checks := -O1 $(ADDRESS) -fsanitize=fuzzer-no-li
 # By these names the kit's clang calls what the runtime of an older clang has under the plain ones only.
 TSAN = $(shell nm "$$($(cxx) -print-file-name=libclang_rt.tsan-$(MACHINE).a)" 2>/dev/null | sed -n 's/.* T __tsan_//p')
 TSAN_NAMES = $(foreach name,$(filter-out $(TSAN),memcpy memmove memset),-Wl,--defsym=__tsan_$(name)=$(name))
-build/thread/threads: build/thread/tests/threads.o build/thread/tikomuci.o
-	$(link) $(TSAN_NAMES)
+build/thread/%: private names = $(TSAN_NAMES)
 
 # Only the branches of the library guide the fuzzer.
 build/fuzzer/tikomuci.o: private more := -fsanitize=fuzzer-no-link

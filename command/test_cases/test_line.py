@@ -6,7 +6,7 @@ from harness import MISUSED, ROOT, Case
 from images import every
 
 SEE = "; see tikomuci --help\n"
-VERBS = ["show", "check", "string", "constant", "body", "section"]
+VERBS = ["show", "check", "string", "constant", "body", "section", "cache", "cache-demo"]
 
 
 class Line(Case):
@@ -22,6 +22,14 @@ class Line(Case):
         self.misused("show takes a FILE or more", "show")
         self.misused("check takes a FILE or more", "check", "--json")
         self.misused("show takes no -o", "show", "every", "-o", "out")
+        self.misused("cache-demo takes a FILE or more", "cache-demo", "-o", "out")
+
+    def test_stores(self):
+        self.misused("cache takes OWNERS and BUFFER", "cache", "every")
+        self.misused("cache takes OWNERS and BUFFER", "cache", "every", "every", "every")
+        self.misused("cache takes no -o", "cache", "every", "every", "-o", "out")
+        self.misused("standard input cannot be both OWNERS and BUFFER", "cache", "--json", "-", "-")
+        self.misused("standard output cannot take two stores", "cache-demo", "every", "-o", "-")
 
     def test_parts(self):
         for verb in ("string", "constant", "body"):
@@ -56,7 +64,7 @@ class Line(Case):
         status, text, errors = self.said("--help")
         self.assertEqual((status, errors), (0, ""))
         self.says(0, text, "", "show", "-h", "every")
-        self.assertEqual(re.findall(r"^tikomuci (\w+)", text, re.MULTILINE), VERBS)
+        self.assertEqual(re.findall(r"^tikomuci (\w[\w-]*)", text, re.MULTILINE), VERBS)
         self.assertEqual(re.findall(r"^  (\d)  ", text, re.MULTILINE), list("012345"))
         self.assertLessEqual(max(map(len, text.splitlines())), 120)
 

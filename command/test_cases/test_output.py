@@ -189,6 +189,9 @@ class Lost(Case):
             ("check", "--json", "absent-not-reached", "every"),
             ("constant", "every", "0", "-o", "-"),
             ("constant", "--json", "every", "0", "-o", "out"),
+            ("cache-demo", "every"),
+            ("cache-demo", "--json", "every", "-o", "out"),
+            ("cache", "every", "every"),
             ("--help",),
             ("--version",),
         ]

@@ -67,6 +67,25 @@ class Progress(Case):
         shown = [line for line in terminal.lines() if "reading" in line]
         self.assertRegex(shown[-1], r"^tikomuci: file 2 of 3, reading, 0 MiB, [1-9]\d* s$")
 
+    def test_which_of_the_files_that_are_put(self):
+        terminal, said = self.watched("cache-demo", "every", "-")
+        self.assertTrue(said.startswith("every, instance 1, slot 0: accepted\n-, instance 2, slot 1: accepted\n"), said)
+        shown = [line for line in terminal.lines() if "reading" in line]
+        self.assertRegex(shown[-1], r"^tikomuci: file 2 of 2, reading, 0 MiB, [1-9]\d* s$")
+
+    def test_what_is_done_behind_the_last_file_has_no_number(self):
+        os.mkfifo(self.folder / "out.buffer")
+        terminal = Terminal(self)
+        words = [*harness.COMMAND, "cache-demo", "every", "every", "-o", "out"]
+        streams = {"stdout": subprocess.DEVNULL, "stderr": terminal.theirs}
+        with subprocess.Popen(words, cwd=self.folder, **streams) as process:
+            os.close(terminal.theirs)
+            terminal.wait_for(b"writing")
+            data = (self.folder / "out.buffer").read_bytes()
+            self.assertEqual((process.wait(), len(data)), (0, 64 * len(every().bytes)))
+        shown = [line for line in terminal.lines() if "writing" in line]
+        self.assertRegex(shown[-1], r"^tikomuci: writing, 0 of 0 MiB, [1-9]\d* s$")
+
     def test_the_line_does_not_stand_in_the_text(self):
         terminal, _ = self.watched("check", "-", out="terminal")
         self.assertRegex(terminal.seen, rb"reading, 0 MiB, \d+ s *(\r.*)?\r +\r-: accepted\r\n$")

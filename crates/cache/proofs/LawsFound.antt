@@ -31,7 +31,7 @@ answered n s f v e = go (isGood n s)
     go (no h) = absurd (refused-not-accepted (rw (bad-cache n s h) at e))
 
 -- What was accepted was found ..
-or-refused-inv : (r : ℕ) (o : Option ℕ) (k : ℕ) → orRefused r o ≡ accepted k → o ≡ some k
+pub or-refused-inv : (r : ℕ) (o : Option ℕ) (k : ℕ) → orRefused r o ≡ accepted k → o ≡ some k
 unfolding orRefused
 or-refused-inv r none k e = absurd (refused-not-accepted e)
 or-refused-inv r (some j) k e = ap some (accepted-value e)

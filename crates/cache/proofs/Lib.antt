@@ -11,3 +11,6 @@ pub mod LawsHistory
 pub mod FetchOwn
 pub mod Apart
 pub mod NoSlot
+pub mod LawsJudged
+pub mod LawsCalls
+pub mod LawsFetch

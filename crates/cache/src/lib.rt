@@ -44,7 +44,13 @@ fn judged(len: usize, owners: &[u8], slots: usize) -> bool
     if slots == 0 {
         return false;
     }
-    if len % slots != 0 || owners.len() % 24 != 0 || owners.len() / 24 != slots {
+    if len % slots != 0 {
+        return false;
+    }
+    if owners.len() % 24 != 0 {
+        return false;
+    }
+    if owners.len() / 24 != slots {
         return false;
     }
     owners::rows_good(owners, slots, (len / slots) as u64)
@@ -72,7 +78,13 @@ fn fill_slot(cache: &mut [u8], start: usize, size: usize, bytes: &[u8])
 }
 
 // A file that is accepted is put, if it fits and there is a slot.
-fn put_accepted(cache: &mut [u8], owners: &mut [u8], slots: usize, instance: u64, file: &[u8]) -> SlotRead
+fn put_accepted(
+    cache: &mut [u8],
+    owners: &mut [u8],
+    slots: usize,
+    instance: u64,
+    file: &[u8],
+) -> SlotRead
     requires { ⌜ Good slots (record { buffer = now cache; owners = now owners }) × Accepted (now file) ⌝ }
     ensures { λ r. ⌜ Writes (putAnswer slots instance (now (file .entry))) (putLent slots instance (now (file .entry))) (record { buffer = now (cache .entry); owners = now (owners .entry) }) (record { buffer = now (cache .exit); owners = now (owners .exit) }) r ⌝ }
 {
@@ -90,7 +102,13 @@ fn put_accepted(cache: &mut [u8], owners: &mut [u8], slots: usize, instance: u64
 }
 
 // Puts a file for an instance: the cache is judged first, and then the file.
-pub fn put(cache: &mut [u8], owners: &mut [u8], slots: usize, instance: u64, file: &[u8]) -> SlotRead
+pub fn put(
+    cache: &mut [u8],
+    owners: &mut [u8],
+    slots: usize,
+    instance: u64,
+    file: &[u8],
+) -> SlotRead
     ensures { λ r. ⌜ PutPost slots instance (now (file .entry)) (record { buffer = now (cache .entry); owners = now (owners .entry) }) (record { buffer = now (cache .exit); owners = now (owners .exit) }) r ⌝ }
 {
     if !judged(cache.len(), owners, slots) {

@@ -1,5 +1,5 @@
-// corpus FOLDER: writes the files that the fuzz targets start from, FOLDER/file/* and FOLDER/sheet/*. Each run writes
-// the same bytes.
+// corpus FOLDER: writes the files that the fuzz targets start from, FOLDER/file/*, FOLDER/sheet/* and FOLDER/cache/*.
+// Each run writes the same bytes.
 
 #include <cstdio>
 #include <cstdlib>
@@ -187,6 +187,77 @@ Wire far_start(std::uint64_t length) {
     return handed(0, sheet, {});
 }
 
+// An input of the cache target: the number of slots and their size, and then calls and damage, one after the other. An
+// instance is a byte, and those from 128 on are counted from the largest number down.
+class History {
+  public:
+    enum Slots : std::uint8_t { Cache = 0, Session = 1 };
+    enum File : std::uint8_t { Raw = 0, Fitting = 1, TooLarge = 2, Plain = 3 };
+
+    History(Slots slots, std::uint8_t slot_size) : input_({slots, slot_size}) {}
+
+    // A file with a constant of this length and these bytes.
+    History &put(std::uint8_t instance, std::uint8_t length, std::uint8_t byte, File file = Plain) {
+        return add({0, instance, file, length, byte});
+    }
+    History &put_raw(std::uint8_t instance, const Wire &file) {
+        add({0, instance, Raw, static_cast<std::uint8_t>(file.size())});
+        return add(file);
+    }
+    History &fetch(std::uint8_t instance) { return add({1 + 8, instance}); }
+    History &drop(std::uint8_t instance) { return add({6, instance}); }
+    History &damage_word(std::uint8_t word, std::uint8_t value) { return add({7, 3, 0, word, value}); }
+    History &damage_slot(std::uint8_t place, std::uint8_t byte) { return add({7, 0, 0, place, byte}); }
+
+    [[nodiscard]] const Wire &input() const { return input_; }
+
+  private:
+    History &add(const Wire &bytes) {
+        input_.insert(input_.end(), bytes.begin(), bytes.end());
+        return *this;
+    }
+
+    Wire input_;
+};
+
+// More instances than slots: all are taken, two are freed and taken again.
+History full(History::Slots slots, std::uint8_t count) {
+    History history(slots, 120);
+    for (unsigned i = 0; i < count + 2U; ++i) {
+        const auto number = static_cast<std::uint8_t>(i);
+        history.put(static_cast<std::uint8_t>(i % 2 == 0 ? i : 255 - i), static_cast<std::uint8_t>(i % 7), number);
+    }
+    history.drop(4).drop(252).put(200, 5, 1).fetch(200).put(2, 6, 2).fetch(2);
+    return history;
+}
+
+History replaced() {
+    History history(History::Cache, 110);
+    history.put(0, 40, 1).fetch(0).put(0, 3, 2).fetch(0).put(128, 1, 3).drop(0).fetch(0).put(5, 2, 4).fetch(128);
+    return history;
+}
+
+History sizes() {
+    History history(History::Session, 90);
+    history.put(1, 2, 3, History::Fitting).fetch(1).put(2, 2, 3, History::TooLarge).fetch(2).put(1, 0, 0).fetch(1);
+    return history;
+}
+
+History raw_files() {
+    const Wire file = every_row().file().value_or(Wire());
+    History history(History::Cache, 250);
+    history.put_raw(1, file).fetch(1).put_raw(2, Wire(file.begin(), file.begin() + 50)).put_raw(3, {}).fetch(3);
+    return history;
+}
+
+// A mark, an instance and a length that are others; and a slot in which a file was damaged.
+History damaged(History::Slots slots) {
+    History history(slots, 100);
+    history.put(7, 4, 1).put(8, 4, 2).damage_word(0, 9).fetch(7).damage_word(4, 7).fetch(8).damage_word(4, 8).fetch(8);
+    history.damage_word(2, 101).drop(7).damage_word(2, 60).fetch(7).damage_slot(13, 0).fetch(7).drop(7).fetch(8);
+    return history;
+}
+
 void save(const std::filesystem::path &path, const Wire &bytes) {
     std::ofstream file(path, std::ios::binary);
     file.write(reinterpret_cast<const char *>(bytes.data()), static_cast<std::streamsize>(bytes.size()));
@@ -198,8 +269,10 @@ void save(const std::filesystem::path &path, const Wire &bytes) {
 void save_all(const std::filesystem::path &folder) {
     const std::filesystem::path files = folder / "file";
     const std::filesystem::path sheets = folder / "sheet";
-    std::filesystem::create_directories(files);
-    std::filesystem::create_directories(sheets);
+    const std::filesystem::path caches = folder / "cache";
+    for (const std::filesystem::path &kind : {files, sheets, caches}) {
+        std::filesystem::create_directories(kind);
+    }
     for (const Seed &seed : seeds()) {
         save(files / seed.name, file_of(seed));
     }
@@ -212,6 +285,13 @@ void save_all(const std::filesystem::path &folder) {
     }
     save(sheets / "start", far_start(std::uint64_t{1} << 32));
     save(sheets / "limit", far_start(std::uint64_t{1} << 31));
+    save(caches / "full-16", full(History::Cache, TIKOMUCI_CACHE_SLOTS).input());
+    save(caches / "full-64", full(History::Session, TIKOMUCI_SESSION_SLOTS).input());
+    save(caches / "replaced", replaced().input());
+    save(caches / "sizes", sizes().input());
+    save(caches / "raw", raw_files().input());
+    save(caches / "damaged-16", damaged(History::Cache).input());
+    save(caches / "damaged-64", damaged(History::Session).input());
 }
 
 }  // namespace

@@ -1,9 +1,10 @@
-// A fuzz target: any bytes, as a file and as a sheet with its pool, through the text and the JSON of the command. A
-// name is a part of the input too.
+// A fuzz target: any bytes, as a file, as a sheet with its pool and as the stores of a cache, through the text and the
+// JSON of the command. A name is a part of the input too.
 
 #include <initializer_list>
 #include <string>
 
+#include "../../../command/cache.hpp"
 #include "../../../command/container.hpp"
 #include "../../../command/escape.hpp"
 #include "../../../command/object.hpp"
@@ -14,6 +15,7 @@
 namespace {
 
 using namespace fuzz;
+using command::Cache;
 using command::Container;
 using tikomuci::Sheet;
 
@@ -115,6 +117,69 @@ void as_file(const Container &container, std::string_view name) {
     }
 }
 
+// What a slot is said to hold is what its instance fetches.
+void held_file(const Cache &cache, Bytes owners, Bytes buffer, const command::Held &held, std::string_view name) {
+    const auto fetch = cache.slots() == TIKOMUCI_CACHE_SLOTS ? tikomuci_cache_fetch : tikomuci_session_fetch;
+    const auto fetched = [&](std::uint64_t number) {
+        return fetch(buffer.data(), buffer.size(), owners.data(), owners.size(), held.instance, number);
+    };
+    const auto tables = tikomuci::read(held.file);
+    puts_text([&](command::Sink &out) { command::text::put_held(out, name, held, tables.outcome()); });
+    if (!tables) {
+        claim(tikomuci::outcome_of(fetched(0)) == tables.outcome(), "a damaged file is refused as it is shown");
+        puts_object([&](command::Sink &out) { command::object::put_held(out, name, held, tables.outcome()); });
+        return;
+    }
+    const Sheet &sheet = tables->sheet();
+    const std::uint64_t first = held.offset + command::constants_at(held.file, sheet);
+    std::uint64_t at = first;
+    std::uint64_t number = 0;
+    for (const Bytes constant : sheet.constants()) {
+        const tikomuci_answer answer = fetched(number++);
+        claim(answer.refusal == 0 && answer.first == at && answer.second == constant.size() &&
+                  same(buffer.subspan(at, constant.size()), constant),
+              "a constant is shown where it is fetched");
+        at += constant.size();
+    }
+    claim(tikomuci::outcome_of(fetched(number)) == ABSENT, "all constants are shown");
+    puts_text([&](command::Sink &out) { command::text::put_constants(out, sheet, first); });
+    puts_object([&](command::Sink &out) { command::object::put_held(out, name, held, sheet, first); });
+}
+
+// Two stores are shown as the library judges them.
+void as_cache(Bytes owners, Bytes buffer, std::string_view name) {
+    const Cache cache(owners, buffer);
+    if (const Outcome outcome = cache.outcome(); !outcome) {
+        const auto faults = cache.faults();
+        claim(!faults.empty(), "there is a reason why two stores are refused");
+        puts_text([&](command::Sink &out) { command::text::put_faults(out, faults); });
+        puts_object([&](command::Sink &out) { command::object::put_cache(out, name, name, outcome, faults); });
+        return;
+    }
+    claim(cache.faults().empty(), "there is none why they are accepted");
+    const auto taken = cache.held();
+    puts_text([&](command::Sink &out) { command::text::put_slots(out, cache, taken.size()); });
+    puts_object([&](command::Sink &out) { command::object::put_cache(out, name, name, cache, taken.size()); });
+    for (const command::Held &held : taken) {
+        held_file(cache, owners, buffer, held, name);
+    }
+}
+
+// An input as a cache of 16 slots that is often well-formed: a byte says of each of the first rows whether it is taken,
+// whether it has the instance of row 0, and whether its length is too large; the rest stands in each slot.
+void as_made_cache(Bytes input, std::string_view name) {
+    const Bytes rows = input.first(std::min<std::size_t>(input.size(), 3));
+    const Bytes slot = input.subspan(rows.size());
+    std::vector<std::uint64_t> words;
+    Wire buffer;
+    for (std::size_t k = 0; k < TIKOMUCI_CACHE_SLOTS; ++k) {
+        const unsigned bits = k < rows.size() ? rows[k] : 0U;
+        words.insert(words.end(), {bits & 1U, (bits & 2U) != 0 ? 0 : k, slot.size() + (bits >> 2U & 1U)});
+        buffer.insert(buffer.end(), slot.begin(), slot.end());
+    }
+    as_cache(little_endian(words), buffer, name);
+}
+
 void as_error(std::string_view name) {
     const command::Failure failure{command::Status::Unreadable, std::string(name), "cannot be read"};
     puts_object([&](command::Sink &out) { command::object::put_failure(out, name, failure); });
@@ -153,6 +218,9 @@ extern "C" int LLVMFuzzerTestOneInput(const std::uint8_t *data, std::size_t size
     const Container container(input);
     as_file(container, name);
     as_error(name);
+    const Bytes owners = input.first(std::min<std::size_t>(size, TIKOMUCI_CACHE_SLOTS * TIKOMUCI_OWNER_BYTES));
+    as_cache(owners, input.subspan(owners.size()), name);
+    as_made_cache(input, name);
     const Stores stores = handed(input);
     if (const auto sheet = Sheet::open(stores.sheet, stores.pool)) {
         shown(container, name, *sheet);

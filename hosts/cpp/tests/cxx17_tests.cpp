@@ -13,6 +13,7 @@
 
 #include "check.hpp"
 #include "tikomuci_builder.hpp"
+#include "tikomuci_cache.hpp"
 #include "walk.hpp"
 
 namespace host {
@@ -90,10 +91,29 @@ void tables() {
     expect(!tikomuci::read(Wire{1, 2, 3}), "no tables");
 }
 
+void caches() {
+    const Wire file = every_table();
+    std::vector<std::byte> slots(TIKOMUCI_CACHE_SLOTS * file.size());
+    std::array<std::uint8_t, TIKOMUCI_CACHE_SLOTS * TIKOMUCI_OWNER_BYTES> owners{};
+    const auto slot = tikomuci::cache_put(slots, owners, 5, host::Span{file.data(), file.size()});
+    const auto constant = tikomuci::cache_fetch(slots, owners, 5, 0);
+    expect(slot && *slot == 0 && constant && same(*constant, {0xDE, 0xAD, 0xBE}), "a cache over lent stores");
+    expect(tikomuci::holders(owners).size() == 1 && tikomuci::cache_drop(slots, owners, 5), "and its slot is freed");
+
+    auto cache = tikomuci::ProfileCache::make(file.size());
+    expect(cache && cache->put(5, file), "a cache with a lock");
+    std::array<std::byte, 3> into{};
+    const auto length = cache->fetch(5, 0, into);
+    expect(length && *length == 3 && into[0] == std::byte{0xDE}, "a constant that is copied");
+    const auto held = cache->try_fetch(5, 0);
+    expect(held && same(held->bytes(), {0xDE, 0xAD, 0xBE}), "a constant that is held");
+}
+
 }  // namespace
 
 void cxx17_tests() {
     spans();
     numbers_and_views();
     tables();
+    caches();
 }

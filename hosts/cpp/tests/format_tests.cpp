@@ -41,9 +41,46 @@ std::vector<Number> numbers(const std::vector<std::string> &block, int base) {
     return numbers;
 }
 
+// A store that begins with the bytes of a block. All others are 0.
+Wire store(const std::vector<std::string> &block, std::size_t size) {
+    Wire bytes = numbers<std::uint8_t>(block, 16);
+    bytes.resize(size);
+    return bytes;
+}
+
+// The two files are put, fetched, and one of them is dropped: each time the stores are those that it has.
+void cache_tests_of_format() {
+    const auto tables = blocks("owners");
+    const auto slots = blocks("slots");
+    expect(tables.size() == 2 && slots.size() == 2, "a cache before and after a drop");
+    if (tables.size() != 2 || slots.size() != 2) {
+        return;
+    }
+    Wire owners(TIKOMUCI_CACHE_SLOTS * TIKOMUCI_OWNER_BYTES);
+    Wire cache(TIKOMUCI_CACHE_SLOTS * std::size_t{40});
+    const auto is = [&](std::size_t state) {
+        return owners == store(tables[state], owners.size()) && cache == store(slots[state], cache.size());
+    };
+    const Wire files = store(slots[0], cache.size());
+    const auto put = [&](std::uint64_t instance, std::size_t slot) {
+        const auto answer = tikomuci_cache_put(cache.data(), cache.size(), owners.data(), owners.size(), instance,
+                                               &files[40 * slot], 35);
+        return answer.refusal == 0 && answer.first == slot;
+    };
+    const auto fetched = [&](std::uint64_t instance, std::uint64_t offset) {
+        const auto answer = tikomuci_cache_fetch(cache.data(), cache.size(), owners.data(), owners.size(), instance, 0);
+        return answer.refusal == 0 && answer.first == offset && answer.second == 2;
+    };
+    expect(put(7, 0) && put(300, 1) && is(0), "the cache of FORMAT.md is filled as it says");
+    expect(fetched(7, 32) && fetched(300, 72) && !fetched(1, 32), "its constants are fetched as it says");
+    const auto dropped = tikomuci_cache_drop(cache.data(), cache.size(), owners.data(), owners.size(), 7);
+    expect(dropped.refusal == 0 && dropped.first == 0 && is(1), "a file is dropped as it says");
+}
+
 }  // namespace
 
 void format_tests() {
+    cache_tests_of_format();
     const auto files = blocks("bytes");
     const auto sheets = blocks("words");
     const auto pools = blocks("pool");

@@ -19,6 +19,7 @@ static int archive_has_the_number(void) { return tikomuci_abi() == TIKOMUCI_ABI 
 
 static int names_are_there(void) {
     return is(tikomuci_refusal_name(0), "accepted") && is(tikomuci_refusal_name(TIKOMUCI_REFUSAL_ABSENT), "absent") &&
+           is(tikomuci_refusal_name(TIKOMUCI_REFUSAL_NO_SLOT), "no-slot") &&
            is(tikomuci_refusal_name(TIKOMUCI_REFUSAL_OVERLAP), "overlap") &&
            is(tikomuci_refusal_name(UINT64_MAX), "unknown") &&
            is(tikomuci_refusal_text(TIKOMUCI_REFUSAL_ABSENT), "what was asked for is not there") &&
@@ -45,6 +46,18 @@ static int answers_come_by_value(void) {
            tikomuci_remaining(out, sizeof out, 1) == 2 && tikomuci_f8e5m2(0) == 0;
 }
 
+static int cache_is_empty(void) {
+    uint8_t slots[TIKOMUCI_CACHE_SLOTS] = {0};
+    uint8_t owners[TIKOMUCI_CACHE_SLOTS * TIKOMUCI_OWNER_BYTES] = {0};
+    return has(tikomuci_cache_put(slots, sizeof slots, owners, sizeof owners, 1, NULL, 0), TIKOMUCI_REFUSAL_SHORT,
+               TIKOMUCI_STAGE_HEADER, 0, 0) &&
+           has(tikomuci_cache_fetch(slots, sizeof slots, owners, sizeof owners, 1, 0), TIKOMUCI_REFUSAL_ABSENT,
+               TIKOMUCI_STAGE_CALL, 0, 0) &&
+           has(tikomuci_session_drop(slots, sizeof slots, owners, sizeof owners, 1), TIKOMUCI_REFUSAL_SHEET,
+               TIKOMUCI_STAGE_CALL, 0, 0) &&
+           TIKOMUCI_SESSION_SLOTS == 64 && TIKOMUCI_OWNER_BYTES == 3 * sizeof(uint64_t);
+}
+
 /* What does not hold, or null. */
 const char *header_fault(void) {
     if (!version_is_that_of_the_text()) {
@@ -58,6 +71,9 @@ const char *header_fault(void) {
     }
     if (!limits_are_powers_of_two()) {
         return "the limits";
+    }
+    if (!cache_is_empty()) {
+        return "an empty cache";
     }
     return answers_come_by_value() ? NULL : "answers by value";
 }

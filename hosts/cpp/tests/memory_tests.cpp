@@ -1,4 +1,5 @@
-// Tests of what asks for memory: only reading a file into tables does, and it answers where there is none.
+// Tests of what asks for memory: only reading a file into tables and making a cache do, and they answer where there is
+// none.
 
 #include <cstdlib>
 #include <new>
@@ -6,6 +7,7 @@
 #include <vector>
 
 #include "check.hpp"
+#include "tikomuci_cache.hpp"
 #include "tikomuci_tables.hpp"
 #include "walk.hpp"
 
@@ -96,9 +98,32 @@ void no_memory() {
     expect(outcome == Outcome{Refusal::Magic, Stage::Header}, "a refused file asks for none");
 }
 
+// A cache asks for its slots and for what holds them with the lock, and no call on it asks for more.
+void caches() {
+    const Wire file = every_table();
+    Wire into(3);
+    tikomuci::Got<tikomuci::ProfileCache> cache{tikomuci::ProfileCache()};
+    expect(asks([&] { cache = tikomuci::ProfileCache::make(150); }) == 2 && cache, "a cache asks for its stores");
+    bool right = true;
+    const std::size_t often = asks([&] {
+        right = cache->put(1, file) && cache->fetch(1, 0, into) && cache->try_fetch(1, 0, into);
+        right = right && static_cast<bool>(cache->fetch(1, 0));
+        right = right && static_cast<bool>(cache->try_fetch(1, 0));
+        right = right && cache->holders().size() == 1 && cache->drop(1);
+    });
+    expect(right && often == 0, "the calls on a cache ask for no memory");
+    for (std::size_t times = 0; times < 2; ++times) {
+        given = times;
+        const Outcome outcome = tikomuci::ProfileCache::make(150).outcome();
+        given = std::numeric_limits<std::size_t>::max();
+        expect(outcome == Outcome{Refusal::Memory, Stage::Call}, "a cache where there is no memory");
+    }
+}
+
 }  // namespace
 
 void memory_tests() {
     nothing_is_allocated();
     no_memory();
+    caches();
 }

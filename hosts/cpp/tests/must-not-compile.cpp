@@ -9,6 +9,7 @@
 #include <vector>
 
 #include "tikomuci_builder.hpp"
+#include "tikomuci_cache.hpp"
 
 using Container = std::vector<std::uint8_t>;
 
@@ -16,6 +17,9 @@ Container load();
 const Container constant_load();
 std::vector<std::byte> load_bytes();
 tikomuci::Tables tables();
+tikomuci::SessionStores session();
+tikomuci::ProfileCache cache();
+tikomuci::HeldProfile held();
 
 // A view of a container that is gone behind the call.
 void temporaries(const Container &file) {
@@ -71,4 +75,47 @@ void answers(const Container &file, tikomuci::Writer &writer, const tikomuci::Go
 void rows(tikomuci::Builder &built, const std::vector<std::int64_t> &wide) {
     built.tensor_view(0, wide, {1});
     built.partition_view(wide, 0, {1});  // error: a list has numbers that may not fit
+}
+
+// A slot of a buffer that is gone, or without its lock.
+void slots(const Container &file, Container &buffer, Container &owners) {
+    static_cast<void>(tikomuci::cache_put(buffer, owners, 1, load()));  // the file may be gone: it is copied
+    static_cast<void>(tikomuci::cache_fetch(buffer, load(), 1, 0));     // and so may the table of a fetch
+    static_cast<void>(tikomuci::cache_put(load(), owners, 1, file));    // error: keep the container in a variable
+    static_cast<void>(tikomuci::cache_put(buffer, load(), 1, file));    // error: keep the container in a variable
+    static_cast<void>(tikomuci::cache_fetch(load(), owners, 1, 0));     // error: keep the container in a variable
+    static_cast<void>(tikomuci::cache_drop(load(), owners, 1));         // error: keep the container in a variable
+    static_cast<void>(tikomuci::cache_drop(buffer, file, 1));           // error: (could not|cannot|no .*) conver
+    static_cast<void>(tikomuci::session_put(load(), owners, 1, file));  // error: keep the container in a variable
+    static_cast<void>(tikomuci::session_fetch(load(), owners, 1, 0));   // error: keep the container in a variable
+    static_cast<void>(tikomuci::session_drop(buffer, load(), 1));       // error: keep the container in a variable
+    static_cast<void>(*tikomuci::session_fetch(buffer, owners, 1, 0));  // error: give the answer a name
+    tikomuci::cache_drop(buffer, owners, 1);                            // error: ignoring return
+}
+
+void sessions(tikomuci::SessionStores &stores, const Container &file) {
+    static_cast<void>(session().put(1, file));
+    static_cast<void>(session().fetch(1, 0));              // error: keep the stores in a variable
+    static_cast<void>(session().buffer());                 // error: keep the stores in a variable
+    static_cast<void>(session().owners());                 // error: keep the stores in a variable
+    const tikomuci::SessionStores copy = stores;           // error: (deleted function|deleted constructor)
+    stores.buffer()[0] = 1;                                // error: (read-only|cannot assign)
+    stores.owners()[0] = 1;                                // error: (read-only|cannot assign)
+    static_cast<void>(*tikomuci::SessionStores::make(4));  // error: give the answer a name
+    stores.drop(1);                                        // error: ignoring return
+}
+
+void locks(tikomuci::ProfileCache &shared, tikomuci::HeldProfile &profile, Container &into) {
+    static_cast<void>(cache().fetch(1, 0, into));
+    static_cast<void>(shared.fetch(1, 0, load()));   // error: keep the container in a variable
+    static_cast<void>(cache().fetch(1, 0));          // error: keep the cache in a variable
+    static_cast<void>(cache().try_fetch(1, 0));      // error: keep the cache in a variable
+    static_cast<void>(shared.fetch(1, 0)->bytes());  // error: give the answer a name
+    static_cast<void>(held().bytes());               // error: keep the profile in a variable
+    profile.bytes()[0] = 1;                          // error: (read-only|cannot assign)
+    const tikomuci::HeldProfile other = profile;     // error: (deleted function|deleted constructor)
+    const tikomuci::ProfileCache copy = shared;      // error: (deleted function|deleted constructor|implicitly deleted)
+    shared.put(1, into);                             // error: ignoring return
+    shared.fetch(1, 0);                              // error: ignoring return
+    shared.try_fetch(1, 0, into);                    // error: ignoring return
 }

@@ -3,7 +3,7 @@
 use oracle::bytecode::decoder::decode_bytecode;
 
 use crate::inputs::{self, Input};
-use crate::timing::{row, Row};
+use crate::timing::{row, times, Row};
 
 const RUST: &str = "decode_bytecode";
 const PLAIN: &str = "plain Rust";
@@ -42,16 +42,6 @@ impl Stores {
         let need = boundary::measure(file);
         assert!(need.first as usize * 8 == self.sheet.len() && need.second as usize == self.pool.len());
         self.read(file)
-    }
-}
-
-/// Does `work` so often, and gives its last result.
-fn times<T>(calls: usize, mut work: impl FnMut() -> T) -> impl FnMut() -> T {
-    move || {
-        (1..calls).for_each(|_| {
-            std::hint::black_box(work());
-        });
-        work()
     }
 }
 

@@ -1,4 +1,4 @@
-//! The files that are read, viewed and written: a small kernel, many rows in every table, and large constants.
+//! The files that are read, viewed, written and kept: a small kernel, many rows in every table, and large constants.
 
 use oracle::bytecode::TypeTag;
 
@@ -80,20 +80,27 @@ fn made(sizes: &Sizes) -> Input {
     Input { sheet, pool, file }
 }
 
+const KERNEL: Sizes = Sizes {
+    strings: 16,
+    types: 15,
+    constants: 4,
+    globals: 4,
+    functions: 2,
+    attributes: 24,
+    lists: 2,
+    string: 12,
+    constant: 128,
+    body: 320,
+};
+
 /// A kernel of about 2 KiB.
 pub fn kernel() -> Input {
-    made(&Sizes {
-        strings: 16,
-        types: 15,
-        constants: 4,
-        globals: 4,
-        functions: 2,
-        attributes: 24,
-        lists: 2,
-        string: 12,
-        constant: 128,
-        body: 320,
-    })
+    made(&KERNEL)
+}
+
+/// The same kernel with a profile of 1 MiB as its only constant.
+pub fn profile() -> Input {
+    made(&Sizes { constants: 1, constant: 1 << 20, ..KERNEL })
 }
 
 /// So many rows in every table.

@@ -1,8 +1,10 @@
-//! Our calls beside encoding.rs, decoder.rs and a plain reader and writer in safe Rust, in one run, as ratios of times.
-//! See `about` for what is timed.
+//! Our calls beside encoding.rs, decoder.rs, a plain reader and writer in safe Rust and a plain map in C++, in one run,
+//! as ratios of times. See `about` for what is timed.
 
+mod caches;
 mod files;
 mod inputs;
+mod map;
 mod numbers;
 mod timing;
 
@@ -15,6 +17,12 @@ fn about() {
     println!("`called`: encoding.rs's EncodingWriter or decoder.rs's Reader behind a call that answers the same;");
     println!("`inlined`: the same, inlined into the loop that times it. Capacities are reserved.");
     println!("Arrays have 1,000 numbers; reading one ends with the numbers in a vector on both sides.");
+    println!(
+        "Caches are full. A slot has as many bytes as the file, in whole words, so that a put writes what memcpy does;"
+    );
+    println!("`memcpy and measure`: the file copied to the same place of another buffer, and tikomuci_measure;");
+    println!("`constant`: tikomuci_constant of the slot's file. The profile is the kernel's only constant.");
+    println!("`C++ map of vectors`: an unordered_map that measures at a put, and calls tikomuci_constant at a fetch.");
 }
 
 /// A time with three digits or so, in a unit that suits it.
@@ -31,7 +39,7 @@ fn table(rows: &[Row]) {
     println!("\n| what | ours | against | theirs | ours / theirs | goal | met |");
     println!("|---|---:|---|---:|---:|---:|---|");
     for row in rows {
-        let (what, against, ratio) = (row.what, row.against, row.ratio());
+        let (what, against, ratio) = (&row.what, row.against, row.ratio());
         let goal = row.goal.map_or("-".to_owned(), |goal| goal.to_string());
         let met = row.goal.map_or("-", |goal| ["no", "yes"][usize::from(ratio <= goal)]);
         println!("| {what} | {} | {against} | {} | {ratio:.2} | {goal} | {met} |", shown(row.ours), shown(row.theirs));
@@ -43,4 +51,5 @@ fn main() {
     let rows = [numbers::varints(), numbers::arrays(), numbers::padding(), numbers::floats()].concat();
     table(&rows);
     table(&files::all());
+    table(&caches::all());
 }

@@ -13,7 +13,7 @@ const LENGTH: usize = 1000;
 const ARRAYS: usize = 32;
 
 /// SplitMix64 from a fixed seed.
-fn words(count: usize) -> Vec<u64> {
+pub fn words(count: usize) -> Vec<u64> {
     let mut state = 0x5449_4B4F_4D55_4349u64;
     let mut word = move || {
         state = state.wrapping_add(0x9E37_79B9_7F4A_7C15);

@@ -10,7 +10,7 @@ const ENOUGH: Duration = Duration::from_secs(3);
 /// A line of the table: nanoseconds for each call, ours and those of what it is held against.
 #[derive(Clone)]
 pub struct Row {
-    pub what: &'static str,
+    pub what: String,
     pub against: &'static str,
     pub ours: f64,
     pub theirs: f64,
@@ -34,15 +34,26 @@ fn median(mut times: Vec<f64>) -> f64 {
     times[times.len() / 2]
 }
 
-/// Times `calls` calls of each side. Both sides give a value that tells what they did, and the two must agree. Work that
-/// takes long is done in fewer rounds.
+/// Does `work` so often, and gives its last result.
+pub fn times<T>(calls: usize, mut work: impl FnMut() -> T) -> impl FnMut() -> T {
+    move || {
+        (1..calls).for_each(|_| {
+            std::hint::black_box(work());
+        });
+        work()
+    }
+}
+
+/// Times `calls` calls of each side. Both sides give a value that tells what they did, and the two must agree. Work
+/// that takes long is done in fewer rounds.
 pub fn row<T: PartialEq>(
-    (what, against): (&'static str, &'static str),
+    (what, against): (impl Into<String>, &'static str),
     goal: Option<f64>,
     calls: usize,
     mut ours: impl FnMut() -> T,
     mut theirs: impl FnMut() -> T,
 ) -> Row {
+    let what = what.into();
     let (mut our_times, mut their_times) = (Vec::new(), Vec::new());
     let begun = Instant::now();
     for round in 0..WARM_UP + MOST_ROUNDS {

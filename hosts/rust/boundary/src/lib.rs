@@ -1,5 +1,9 @@
 //! The calls of include/tikomuci.h, over slices.
 
+mod cache;
+
+pub use cache::{Cache, CACHE, OWNER_BYTES, SESSION};
+
 use std::mem::{align_of, offset_of, size_of};
 
 /// What a call answers, as tikomuci.h says.
@@ -42,6 +46,7 @@ pub const FULL: u64 = 11;
 pub const SHEET: u64 = 12;
 pub const START: u64 = 13;
 pub const ABSENT: u64 = 14;
+pub const NO_SLOT: u64 = 18;
 pub const LIMIT: u64 = 1;
 pub const MAGIC: u64 = 4;
 pub const STAGE_LIMITS: u64 = 0;

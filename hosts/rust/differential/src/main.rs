@@ -1,11 +1,12 @@
 //! Compares every call of the library with encoding.rs and decoder.rs: answers, written bytes, and bytes that must
-//! stay. Exits with 1 if anything differs.
+//! stay; those of a cache, which the Rust does not have, with hosts/rust/plain. Exits with 1 if anything differs.
 //!
 //! differential [--small] [--genuine FOLDER] [SEED]
 //! differential --write-answers PATH
 //! differential --keep FROM TO
 
 mod arguments;
+mod caches;
 mod containers;
 mod differences;
 mod files;
@@ -41,6 +42,7 @@ fn compare(seed: u64, share: u64, genuine: Option<&Path>) -> io::Result<ExitCode
         Some(folder) => genuine::compare(folder, &mut random, &mut report)?,
         None => println!("files of the genuine writer: LEFT OUT"),
     }
+    caches::compare(genuine, &mut random, &mut report)?;
     Ok(if report.finish() { ExitCode::SUCCESS } else { ExitCode::FAILURE })
 }
 

@@ -1,8 +1,9 @@
-//! Reads Tile IR bytecode into the sheet and the pool of document 01, judges a handed sheet and writes it as a file, as
-//! one would write it with vectors in safe Rust. It shares no code with the library and none with decoder.rs: a second
-//! opinion, and the plain side of measurements. It also follows decoder.rs over a file where docs/DIFFERENCES.md says
-//! that it parts from document 01.
+//! Reads Tile IR bytecode into the sheet and the pool of document 01, judges a handed sheet and writes it as a file,
+//! and keeps a cache of files, as one would write it with vectors in safe Rust. It shares no code with the library and
+//! none with decoder.rs: a second opinion, and the plain side of measurements. It also follows decoder.rs over a file
+//! where docs/DIFFERENCES.md says that it parts from document 01.
 
+pub mod cache;
 mod container;
 mod cursor;
 mod debug;

@@ -10,9 +10,11 @@ pub const PRODUCER: u64 = 7;
 pub const TYPE_TAG: u64 = 8;
 pub const DEBUG_TAG: u64 = 9;
 pub const HINTS: u64 = 10;
+pub const FULL: u64 = 11;
 pub const SHEET: u64 = 12;
 pub const START: u64 = 13;
 pub const ABSENT: u64 = 14;
+pub const NO_SLOT: u64 = 18;
 pub const STAGE_CALL: u64 = 10;
 
 /// What tells refusals of one number and stage apart. No answer has it; the comparison with decoder.rs asks for it.

@@ -8,7 +8,7 @@ use crate::memory::MEMORY;
 use crate::tally::{Against, Report, Tally};
 
 /// The refusals that reading and the views can give: a stage and its numbers.
-const REACHABLE: [(u64, &[u64]); 11] = [
+pub const REACHABLE: [(u64, &[u64]); 11] = [
     (0, &[1]),
     (1, &[2, 4]),
     (2, &[2, 3, 5]),

@@ -21,11 +21,14 @@ mod wire;
 
 pub use answers::write as write_answers;
 pub use calls::{Stores, Tables};
+pub use counts::REACHABLE;
 pub use coverage::Coverage;
+pub use damage::damaged;
 pub use dice::Dice;
+pub use faults::faulty;
 pub use judge::{ask, expect_panics, quietly, sums_are_checked, wrapping_end, Rust};
 pub use made::{make, Made};
-pub use smallest::{all as smallest, invalid_utf8};
+pub use smallest::{all as smallest, invalid_utf8, one_section};
 pub use texts::{Compared, Texts};
 
 use boundary::Answer;

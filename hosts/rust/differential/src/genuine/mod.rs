@@ -25,6 +25,8 @@ const KINDS: (usize, usize) = (24, 7);
 const KEPT: &str = concat!(env!("CARGO_MANIFEST_DIR"), "/../../files");
 /// The folder of files that have hints.
 const WITH_HINTS: &str = "hints";
+/// The folders that the writer fills: by a fixed seed, and by another.
+const WRITTEN: [&str; 2] = ["fixed", "seeded"];
 
 /// A file of the writer.
 struct Genuine {
@@ -52,6 +54,19 @@ fn written(folder: &Path) -> io::Result<Vec<Genuine>> {
         Ok(Genuine { name, file: fs::read(path)?, printed, hints })
     };
     names(folder)?.into_iter().map(genuine).collect()
+}
+
+/// All files: those that are kept in this repository, and those that the writer put below a folder, if there is one.
+pub fn files(folder: Option<&Path>) -> io::Result<Vec<Vec<u8>>> {
+    let mut folders = vec![PathBuf::from(KEPT), Path::new(KEPT).join(WITH_HINTS)];
+    folders.extend(folder.into_iter().flat_map(|folder| WRITTEN.map(|name| folder.join(name))));
+    let mut files = Vec::new();
+    for folder in folders {
+        for path in names(&folder)? {
+            files.push(fs::read(path)?);
+        }
+    }
+    Ok(files)
 }
 
 /// Whether decoder.rs says here what was printed of a file.
@@ -146,7 +161,8 @@ fn enough(files: &[Genuine], coverage: &Coverage) -> Tally {
 /// Compares the files of two folders: `fixed`, of which some are kept in this repository, and `seeded`.
 pub fn compare(folder: &Path, random: &mut Random, report: &mut Report) -> io::Result<()> {
     println!("files of the genuine writer:");
-    let (fixed, seeded) = (written(&folder.join("fixed"))?, written(&folder.join("seeded"))?);
+    let [fixed, seeded] = WRITTEN.map(|name| written(&folder.join(name)));
+    let (fixed, seeded) = (fixed?, seeded?);
     report.add(kept(&fixed)?);
     let mut files: Vec<Genuine> = fixed.into_iter().chain(seeded).collect();
     files.truncate(report.share_of(files.len() as u64) as usize);

@@ -1,0 +1,118 @@
+-- How a cache is judged, and how a slot is found by the rows: as the model has it. Assumes nothing.
+use mathlib.Core.Path.{_≡_, refl, sym, ap, subst, _∙_}
+use Prim.Native.Nat.{ℕ, _+_, _*_, _/_, _%_, _≤_, _<_}
+use native.Mathlib.Nat.{div-add-mod, mul-mod-right}
+use native.Mathlib.Omega.{arith}
+use native.Mathlib.Decide.{decLt}
+use mathlib.Core.Bool.{Bool, true, false}
+use mathlib.Core.Option.{Option, none, some}
+use mathlib.Core.List.{List}
+use lib.ListN.{length, getD}
+use Rattle.exact.specs.Choice.{choose}
+use Rattle.exact.proofs.LawsChoice.{choose-yes, choose-no}
+use Rattle.encoding.specs.Out.{Tells}
+use Rattle.cache.specs.declared.owners.Wanted.the-variants as wanted
+use Rattle.cache.specs.Cache.{Slot, free, Free, isFree, isHeldBy, lowest, slotOf, orElse}
+use Rattle.cache.specs.Lent.{Lent, markAt, slotSize, Rows, Good, slotAt, slotsUpTo}
+use Rattle.cache.specs.Owners.{Is, FirstRow, Judged, asSlot, SlotFor}
+use Rattle.cache.proofs.LawsLowest.{found, nowhere, lowest-is}
+use Rattle.cache.proofs.LawsSlots.{length-slots, slots-at}
+use Rattle.cache.proofs.LawsStored.{free-slot}
+use Rattle.cache.proofs.LawsFound.{held-of, of-held, of-free}
+use Rattle.cache.proofs.LawsOwners.{tells-no}
+
+-- A buffer and an owner table of the right lengths are good if the rows are.
+pub judged-rows : (n len : ℕ) (owners : List ℕ) (t : Bool) → 0 < n → len % n ≡ 0 → length owners % 24 ≡ 0 → length owners / 24 ≡ n →
+    Tells (Rows (len / n) owners n) t → Judged len owners n t
+judged-rows n len owners t h a b c x buffer e =
+    record {
+      holds = λ q. record {
+        slots = h;
+        buffer = sym (rw e (omega (arith, div-add-mod len n)));
+        owners = omega arith;
+        rows = rw e (x .holds q);
+      };
+      fails = λ q g. x .fails q (rw e at (g .rows));
+    }
+
+-- A test that fails where no cache can be.
+pub judged-not : (n len : ℕ) (owners : List ℕ) → ((b : List ℕ) → length b ≡ len → ¬ Good n (record { buffer = b; owners = owners })) →
+    Judged len owners n false
+judged-not n len owners h b e = tells-no refl (h b e)
+
+-- A buffer that is no multiple, and an owner table of another number of rows.
+pub no-multiple : (n len : ℕ) (owners b : List ℕ) → ¬ (len % n ≡ 0) → length b ≡ len → ¬ Good n (record { buffer = b; owners = owners })
+no-multiple n len owners b h e g = h (ap (λ m. m % n) (sym e ∙ g .buffer) ∙ mul-mod-right n (length b / n))
+
+-- A row that is not past the last is one of them.
+pub below : (n r : ℕ) → r ≤ n → ¬ (r ≡ n) → r < n
+below n r h d = omega arith
+
+-- Row r of n as a slot.
+pub as-slot : (n r : ℕ) → r < n → asSlot n r ≡ some r
+unfolding asSlot
+as-slot n r h = choose-yes (decLt r n) (some r) none h
+
+pub as-none : (n r : ℕ) → n ≤ r → asSlot n r ≡ none
+unfolding asSlot
+as-none n r h = choose-no (decLt r n) (some r) none (omega arith)
+
+-- The lowest slot that is such has the number of the first row that is.
+lowest-row : {P : Slot → Type 0} (d : (s : Slot) → Dec (P s)) (n : ℕ) (f : ℕ → Slot) (Q : ℕ → Type 0) (r : ℕ) →
+    ((k : ℕ) → k < n → P (getD (slotsUpTo n f) k free) → Q k) → ((k : ℕ) → k < n → Q k → P (getD (slotsUpTo n f) k free)) →
+    FirstRow Q n r → lowest d (slotsUpTo n f) ≡ asSlot n r
+unfolding asSlot choose
+lowest-row d n f Q r to from x = go (decLt r n)
+  where
+    go : (e : Dec (r < n)) → lowest d (slotsUpTo n f) ≡ choose e (some r) none
+    go (yes h) =
+        let m = length-slots n f in
+        lowest-is d (found {k = r} (record {
+          inside = omega (arith, m);
+          such = from r h (x .such h);
+          none-below = λ l i p. x .none-before l i (to l (omega arith) p);
+        }))
+    go (no h) =
+        let m = length-slots n f in
+        lowest-is d (nowhere (λ l i p. x .none-before l (omega (arith, m)) (to l (omega (arith, m)) p)))
+
+module _ (n : ℕ) (s : Lent) (r : ℕ) where
+  abbrev slots : List Slot
+  slots = slotsUpTo n (slotAt n s)
+
+  -- So with the slot that an instance holds ..
+  pub slot-of-row : (i : ℕ) → FirstRow (Is (wanted.HeldBy i) (s .owners)) n r → slotOf i slots ≡ asSlot n r
+  slot-of-row i x =
+      lowest-row (isHeldBy i) n (slotAt n s) (Is (wanted.HeldBy i) (s .owners)) r (of-held n s i) (λ k h q. held-of n s i k h (q .0) (q .1)) x
+
+  -- .. and the one that is free.
+  free-of-row : FirstRow (Is wanted.Free (s .owners)) n r → lowest isFree slots ≡ asSlot n r
+  free-of-row x =
+      lowest-row isFree n (slotAt n s) (Is wanted.Free (s .owners)) r (λ k h p. unmarked k (of-free n s k h p)) (λ k h e. is-free k h e) x
+    where
+      unmarked : (k : ℕ) → ¬ (0 < markAt (s .owners) k) → markAt (s .owners) k ≡ 0
+      unmarked k h = omega arith
+
+      is-free : (k : ℕ) → k < n → markAt (s .owners) k ≡ 0 → Free (getD slots k free)
+      is-free k h e = subst Free (sym (slots-at n (slotAt n s) k free h ∙ free-slot n s k (omega arith))) tt
+
+-- The slot that a file goes to: its instance's own ..
+pub for-own : (n i : ℕ) (owners : List ℕ) (r : ℕ) → FirstRow (Is (wanted.HeldBy i) owners) n r → r < n → SlotFor n i owners r
+unfolding orElse
+for-own n i owners r x h =
+    record {
+      inside = x .inside;
+      slot = λ b. rw (slot-of-row n (record { buffer = b; owners = owners }) r i x ∙ as-slot n r h) (sym (as-slot n r h));
+    }
+
+-- .. else the lowest free one.
+pub for-free : (n i : ℕ) (owners : List ℕ) (r q : ℕ) → FirstRow (Is (wanted.HeldBy i) owners) n r → n ≤ r →
+    FirstRow (Is wanted.Free owners) n q → SlotFor n i owners q
+unfolding orElse
+for-free n i owners r q x h y =
+    record {
+      inside = y .inside;
+      slot = λ b.
+          let s : Lent = record { buffer = b; owners = owners } in
+          rw (slot-of-row n s r i x ∙ as-none n r h) (free-of-row n s q y);
+    }

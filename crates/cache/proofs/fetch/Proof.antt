@@ -1,0 +1,187 @@
+-- `fetch` views the constant of the file in the slot that the instance holds. Assumes nothing.
+use mathlib.Core.Path.{refl, sym, ap, _∙_}
+use Prim.Native.Nat.{_*_}
+use native.Mathlib.Omega.{arith}
+use borrow.Author.Needs.{needs}
+use borrow.Author.Tests.{not-true, not-false}
+use Rattle.format.specs.Read.{mapRead}
+use Rattle.container.specs.declared.ViewRead.the-variants as view
+use Rattle.container.specs.Views.{viewOf}
+use Rattle.cache.specs.Lent.{slotSize}
+use Rattle.cache.proofs.LawsJudged.{below}
+use Rattle.cache.proofs.LawsCalls.{bad-answer}
+use Rattle.cache.proofs.LawsFetch.{fetch-missing, file-inside, fetch-post, fetch-view, part-is, view-begins}
+use Rattle.cache.proofs.fetch.Statement.{statement}
+use Rattle.cache.proofs.fetch.Tie as tie
+
+judged-requires : tie.Need-judged-requires
+judged-requires c κs = search needs
+
+stopped-requires : tie.Need-stopped-requires
+stopped-requires c κs = search needs
+
+returns : tie.Need-returns
+unfolding mapRead
+returns c =
+    let o = c .before .before .before .before .before in
+    let t = c .before .before .judged .ensures (o .args .cache .now) refl in
+    fetch-post _ _ _ _ _
+    (ap (λ x. viewOf (view.Stop x)) (c .stopped .ensures) ∙
+    sym (ap (mapRead _) (bad-answer _ _ _ (t .fails (not-true _ (c .before .if1 .taken))))))
+
+first-row-requires : tie.Need-first-row-requires
+first-row-requires c κs =
+    let o = c .before .before .before .before in
+    let g = c .before .judged .ensures (o .args .cache .now) refl .holds (not-false _ (c .if1 .left)) in
+    omega (arith, g .owners)
+
+stopped-requires-2 : tie.Need-stopped-requires-2
+stopped-requires-2 c κs = search needs
+
+returns-2 : tie.Need-returns-2
+unfolding mapRead
+returns-2 c =
+    let f = c .before .before in
+    let l = f .before in
+    let o = l .before .before .before .before in
+    let g = l .before .judged .ensures (o .args .cache .now) refl .holds (not-false _ (l .if1 .left)) in
+    fetch-post _ _ _ _ _
+    (ap (λ x. viewOf (view.Stop x)) (c .stopped2 .ensures) ∙
+    sym (ap (mapRead _) (fetch-missing _ _ _ _ g _ (f .first-row .ensures) (omega (arith, c .before .if2 .taken)))))
+
+div-start : tie.Need-div-start
+div-start c = search needs
+
+mul-start : tie.Need-mul-start
+mul-start c =
+    let w = c in
+    let f = w .before in
+    let l = f .before in
+    let o = l .before .before .before .before in
+    let g = l .before .judged .ensures (o .args .cache .now) refl .holds (not-false _ (l .if1 .left)) in
+    let x = f .first-row .ensures in
+    let h = below _ _ (x .inside) (w .if2 .left) in
+    omega (arith, file-inside _ _ _ (o .args .index) g _ x h)
+
+length-requires : tie.Need-length-requires
+length-requires c κs =
+    let w = c in
+    let f = w .before in
+    let l = f .before in
+    let o = l .before .before .before .before in
+    let g = l .before .judged .ensures (o .args .cache .now) refl .holds (not-false _ (l .if1 .left)) in
+    let x = f .first-row .ensures in
+    let h = below _ _ (x .inside) (w .if2 .left) in
+    omega (arith, g .owners)
+
+add-end : tie.Need-add-end
+add-end c =
+    let w = c .before in
+    let f = w .before in
+    let l = f .before in
+    let o = l .before .before .before .before in
+    let g = l .before .judged .ensures (o .args .cache .now) refl .holds (not-false _ (l .if1 .left)) in
+    let x = f .first-row .ensures in
+    let h = below _ _ (x .inside) (w .if2 .left) in
+    omega (arith, c .length .ensures, file-inside _ _ _ (o .args .index) g _ x h)
+
+sub-constant : tie.Need-sub-constant
+sub-constant c = search needs
+
+part-constant-start : tie.Need-part-constant-start
+part-constant-start c = search needs
+
+part-constant-end : tie.Need-part-constant-end
+part-constant-end c =
+    let w = c .before in
+    let f = w .before in
+    let l = f .before in
+    let o = l .before .before .before .before in
+    let g = l .before .judged .ensures (o .args .cache .now) refl .holds (not-false _ (l .if1 .left)) in
+    let x = f .first-row .ensures in
+    let h = below _ _ (x .inside) (w .if2 .left) in
+    let e = c .length .ensures in
+    let q = file-inside _ _ _ (o .args .index) g _ x h in
+    search needs
+
+constant-requires : tie.Need-constant-requires
+constant-requires c κs = search needs
+
+enum-known-x : tie.Need-enum-known-x
+enum-known-x c = search needs
+
+enum-known-view : tie.Need-enum-known-view
+enum-known-view c = search needs
+
+add-t24 : tie.Need-add-t24
+add-t24 c =
+    let p = c .before .before .before .before in
+    let q = p .before .before in
+    let w = q .before in
+    let f = w .before in
+    let l = f .before in
+    let o = l .before .before .before .before in
+    let g = l .before .judged .ensures (o .args .cache .now) refl .holds (not-false _ (l .if1 .left)) in
+    let x = f .first-row .ensures in
+    let h = below _ _ (x .inside) (w .if2 .left) in
+    let room = file-inside _ _ _ (o .args .index) g _ x h in
+    let e = q .length .ensures in
+    let v = p .constant .ensures .sound _ (ap viewOf (c .before .before .view .given .1)) in
+    let start = f .first-row .result * slotSize (o .args .slots) (o .args .cache .now) in
+    omega (arith, view-begins (o .args .cache .now) start (q .length .result) _ _ v (omega (arith, room, e)))
+
+returns-3 : tie.Need-returns-3
+unfolding mapRead
+returns-3 c =
+    let p = c .before .before .before in
+    let q = p .before .before in
+    let w = q .before in
+    let f = w .before in
+    let l = f .before in
+    let o = l .before .before .before .before in
+    let g = l .before .judged .ensures (o .args .cache .now) refl .holds (not-false _ (l .if1 .left)) in
+    let x = f .first-row .ensures in
+    let h = below _ _ (x .inside) (w .if2 .left) in
+    fetch-post _ _ _ _ _
+    (fetch-view _ _ _ _ g _ x h _ (part-is (o .args .cache .now) _ _ _ (q .length .ensures)) (p .constant .result) _ (c .before .x .given .1)
+    (p .constant .ensures .answer))
+
+returns-4 : tie.Need-returns-4
+unfolding mapRead
+returns-4 c =
+    let p = c .before .before .before .before in
+    let q = p .before .before in
+    let w = q .before in
+    let f = w .before in
+    let l = f .before in
+    let o = l .before .before .before .before in
+    let g = l .before .judged .ensures (o .args .cache .now) refl .holds (not-false _ (l .if1 .left)) in
+    let x = f .first-row .ensures in
+    let h = below _ _ (x .inside) (w .if2 .left) in
+    fetch-post _ _ _ _ _
+    (fetch-view _ _ _ _ g _ x h _ (part-is (o .args .cache .now) _ _ _ (q .length .ensures)) (p .constant .result) _
+    (c .before .before .view .given .1) (p .constant .ensures .answer))
+
+pub fetch-spec : {M : Type 1} → statement M
+fetch-spec =
+    tie.close
+    (tie.spec
+    judged-requires
+    stopped-requires
+    returns
+    first-row-requires
+    stopped-requires-2
+    returns-2
+    div-start
+    mul-start
+    length-requires
+    add-end
+    sub-constant
+    part-constant-start
+    part-constant-end
+    constant-requires
+    enum-known-x
+    enum-known-view
+    add-t24
+    returns-3
+    returns-4)
