@@ -3,3 +3,4 @@ pub mod LawsTold
 pub mod LawsViews
 pub mod LawsFiles
 pub mod LawsSheets
+pub mod LawsCaches

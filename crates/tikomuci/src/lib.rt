@@ -1,6 +1,8 @@
 // The exported calls: thin, over plain numbers and byte slices. Each contract is that of the crate below it, seen through
 // the answer struct; a refused call changes no lent memory.
+use cache::SlotRead;
 use container::ViewRead;
+use container::sections::Stopped;
 use decoder::FileRead;
 use encoding::EncodingWriter;
 use encoding::FloatType;
@@ -47,8 +49,16 @@ ghost use Rattle.tikomuci.specs.Views.{view, SectionViewed, RowViewed};
 ghost use Rattle.tikomuci.specs.Files.{needed, Measured, FileDone};
 ghost use Rattle.images.specs.Written.{imageSize};
 ghost use Rattle.tikomuci.specs.Sheets.{size, SheetWritten, SheetImaged};
+ghost use Rattle.cache.specs.Calls.{slotRead};
+ghost use Rattle.tikomuci.specs.Caches.{cacheSlots, sessionSlots, slot, CachePut, CacheFetched, CacheDropped};
 
 const ABI: u64 = 1;
+
+// The slots of document 02's cache ..
+const CACHE_SLOTS: usize = 16;
+
+// .. and those for the sixty tracks of one session.
+const SESSION_SLOTS: usize = 64;
 
 // What every call that can be refused answers.
 #[repr(C)]
@@ -82,6 +92,18 @@ impl Answer {
         Self {
             refusal: code as u64,
             stage: Stage::CALL as u64,
+            first: 0,
+            second: 0,
+        }
+    }
+
+    // A refusal, by its number and its stage.
+    fn stop(stopped: Stopped) -> Self
+        ensures { λ r. ⌜ r ≡ record { refusal = stopped .no; stage = stopped .stage; first = 0; second = 0 } ⌝ }
+    {
+        Self {
+            refusal: stopped.no as u64,
+            stage: stopped.stage as u64,
             first: 0,
             second: 0,
         }
@@ -636,12 +658,7 @@ fn viewed(v: ViewRead) -> Answer
 {
     match v {
         ViewRead::Got(place) => Answer::accept(place.start as u64, place.len as u64),
-        ViewRead::Stop(stopped) => Answer {
-            refusal: stopped.no as u64,
-            stage: stopped.stage as u64,
-            first: 0,
-            second: 0,
-        },
+        ViewRead::Stop(stopped) => Answer::stop(stopped),
     }
 }
 
@@ -659,12 +676,7 @@ fn needs(read: FileRead) -> Answer
 {
     match read {
         FileRead::Got(need) => Answer::accept(need.words as u64, need.bytes as u64),
-        FileRead::Stop(stopped) => Answer {
-            refusal: stopped.no as u64,
-            stage: stopped.stage as u64,
-            first: 0,
-            second: 0,
-        },
+        FileRead::Stop(stopped) => Answer::stop(stopped),
     }
 }
 
@@ -732,4 +744,95 @@ pub extern "C" fn tikomuci_write(sheet: &[u8], pool: &[u8], out: &mut [u8]) -> A
     ensures { λ r. ⌜ SheetWritten (now (sheet .entry)) (now (pool .entry)) (now (out .entry)) (now (out .exit)) r ⌝ }
 {
     sized(writer::write(sheet, pool, out))
+}
+
+// The slot of a call of the cache.
+fn slotted(read: SlotRead) -> Answer
+    ensures { λ a. ⌜ a ≡ slot (slotRead read) ⌝ }
+{
+    match read {
+        SlotRead::Got(slot) => Answer::accept(slot as u64, 0),
+        SlotRead::Stop(stopped) => Answer::stop(stopped),
+    }
+}
+
+// Puts a file in the cache for an instance: `first` is its slot.
+#[no_mangle]
+pub extern "C" fn tikomuci_cache_put(
+    cache: &mut [u8],
+    owners: &mut [u8],
+    instance: u64,
+    file: &[u8],
+) -> Answer
+    ensures { λ r.
+        ⌜ CachePut cacheSlots instance (now (file .entry)) (record { buffer = now (cache .entry); owners = now (owners .entry) })
+        (record { buffer = now (cache .exit); owners = now (owners .exit) }) r ⌝ }
+{
+    slotted(cache::put(cache, owners, CACHE_SLOTS, instance, file))
+}
+
+// The bytes of a constant of the file that an instance has: `first` is their offset in the buffer, `second` how many they
+// are.
+#[no_mangle]
+pub extern "C" fn tikomuci_cache_fetch(
+    cache: &[u8],
+    owners: &[u8],
+    instance: u64,
+    index: u64,
+) -> Answer
+    ensures { λ r. ⌜ CacheFetched cacheSlots instance index (record { buffer = now (cache .entry); owners = now (owners .entry) }) r ⌝ }
+{
+    viewed(cache::fetch(cache, owners, CACHE_SLOTS, instance, index))
+}
+
+// Drops the file that an instance has: `first` is the slot that becomes free.
+#[no_mangle]
+pub extern "C" fn tikomuci_cache_drop(cache: &mut [u8], owners: &mut [u8], instance: u64) -> Answer
+    ensures { λ r.
+        ⌜ CacheDropped cacheSlots instance (record { buffer = now (cache .entry); owners = now (owners .entry) })
+        (record { buffer = now (cache .exit); owners = now (owners .exit) }) r ⌝ }
+{
+    slotted(cache::drop(cache, owners, CACHE_SLOTS, instance))
+}
+
+// The same three for a session: put ..
+#[no_mangle]
+pub extern "C" fn tikomuci_session_put(
+    cache: &mut [u8],
+    owners: &mut [u8],
+    instance: u64,
+    file: &[u8],
+) -> Answer
+    ensures { λ r.
+        ⌜ CachePut sessionSlots instance (now (file .entry)) (record { buffer = now (cache .entry); owners = now (owners .entry) })
+        (record { buffer = now (cache .exit); owners = now (owners .exit) }) r ⌝ }
+{
+    slotted(cache::put(cache, owners, SESSION_SLOTS, instance, file))
+}
+
+// .. fetch ..
+#[no_mangle]
+pub extern "C" fn tikomuci_session_fetch(
+    cache: &[u8],
+    owners: &[u8],
+    instance: u64,
+    index: u64,
+) -> Answer
+    ensures { λ r. ⌜ CacheFetched sessionSlots instance index (record { buffer = now (cache .entry); owners = now (owners .entry) }) r ⌝ }
+{
+    viewed(cache::fetch(cache, owners, SESSION_SLOTS, instance, index))
+}
+
+// .. and drop.
+#[no_mangle]
+pub extern "C" fn tikomuci_session_drop(
+    cache: &mut [u8],
+    owners: &mut [u8],
+    instance: u64,
+) -> Answer
+    ensures { λ r.
+        ⌜ CacheDropped sessionSlots instance (record { buffer = now (cache .entry); owners = now (owners .entry) })
+        (record { buffer = now (cache .exit); owners = now (owners .exit) }) r ⌝ }
+{
+    slotted(cache::drop(cache, owners, SESSION_SLOTS, instance))
 }

@@ -12,18 +12,16 @@ accept-requires c κs = search needs
 enum-known-v-2 : tie.Need-enum-known-v-2
 enum-known-v-2 c = search needs
 
-cast-t7 : tie.Need-cast-t7
-cast-t7 c = search needs
-
-cast-t8 : tie.Need-cast-t8
-cast-t8 c = search needs
+stop-requires : tie.Need-stop-requires
+stop-requires c κs = search needs
 
 returns : tie.Need-returns
 returns c = rw (c .before .before .v .given .1) (c .accept .ensures)
 
 returns-2 : tie.Need-returns-2
-returns-2 c = rw (c .before .before .before .v2 .given .1)
+returns-2 c = rw (c .before .before .v2 .given .1) (c .stop .ensures)
 
 pub viewed-spec : {M : Type 1} → statement M
 viewed-spec =
-    tie.close (tie.spec enum-known-v accept-requires enum-known-v-2 cast-t7 cast-t8 returns returns-2)
+    tie.close
+    (tie.spec enum-known-v accept-requires enum-known-v-2 stop-requires returns returns-2)
