@@ -6,8 +6,8 @@ use Prim.Native.Nat.{ℕ, _+_, _*_, _≤_}
 use native.Mathlib.Omega.{arith}
 use mathlib.Core.Option.{Option, none, some}
 use mathlib.Core.List.{List, [], _++_}
-use lib.ListN.{length, take, drop, getD, length-drop, take-append-drop}
-use lib.Seq.{drop-drop, drop-append-le, take-append-le}
+use lib.ListN.{length, take, drop, getD, take-append-drop}
+use lib.Seq.{drop-drop}
 use Rattle.enums.specs.Container.{constantId}
 use Rattle.format.specs.Views.{Span, constantsIn, Viewed}
 use Rattle.format.proofs.Decoded.{tables-only}
@@ -17,15 +17,9 @@ use Rattle.cache.specs.Cache.{Slot, free, held}
 use Rattle.cache.specs.Lent.{Lent, lengthAt, slotSize}
 use Rattle.cache.specs.Meaning.{cacheOf, ofCache}
 use Rattle.cache.specs.History.{Call, run, told, Empty, Numbered, lastPut, OfOwn}
+use Rattle.cache.proofs.LawsTable.{part-bytes}
 use Rattle.cache.proofs.LawsCache.{Has, has-file, has-none, fetch-file, fetch-none}
 use Rattle.cache.proofs.LawsHistory.{cache-held, cache-once, Holds, empty-holds, run-holds}
-
--- A part of what some bytes begin with is a part of them.
-part-bytes : (l f r : List ℕ) (at size : ℕ) → l ≡ f ++ r → at + size ≤ length f → take size (drop at l) ≡ take size (drop at f)
-part-bytes l f r at size e h =
-    let a : at ≤ length f = omega arith in
-    let b : size ≤ length (drop at f) = omega (arith, length-drop at f) in
-    rw (e, drop-append-le at f r a, take-append-le size (drop at f) r b)
 
 -- The constant that a view of the file in slot j has found stands in the buffer, from the slot's start on.
 pub slot-bytes : (n i j k : ℕ) (s : Lent) (c : List Slot) (f : List ℕ) (p : Span) → cacheOf n s ≡ some c → getD c j free ≡ held i f →

@@ -1,6 +1,6 @@
 -- How the calls follow their model: what they answer, what they leave, and that their contracts allow one result only.
 -- Assumes nothing.
-use mathlib.Core.Path.{_≡_, refl, sym, ap, _∙_}
+use mathlib.Core.Path.{_≡_, refl, sym, ap, subst, _∙_}
 use Prim.Native.Nat.{ℕ, _+_, _-_, _*_, _^_, _≤_, _<_}
 use native.Mathlib.Omega.{arith}
 use native.Mathlib.Decide.{decLe}
@@ -57,19 +57,20 @@ module _ (n i : ℕ) (file : List ℕ) (s : Lent) (g : Good n s) where
 
   module _ (t : Tables) (d : decode file ≡ accepted t) where
     -- .. nor is one that is too large ..
-    pub put-large : slotSize n (s .buffer) < length file → putAnswer n i file s ≡ refused refusals.full refusals.atCall 0
+    pub put-large : (z : ℕ) → z ≡ slotSize n (s .buffer) → z < length file →
+        putAnswer n i file s ≡ refused refusals.full refusals.atCall 0
     unfolding putIn andThen
-    put-large h =
+    put-large z e h =
         good-answer n s (putIn (slotSize n (s .buffer)) i file) g ∙
-        rw d (choose-no (decLe (length file) (slotSize n (s .buffer))) _ _ (omega arith))
+        rw d (choose-no (decLe (length file) (slotSize n (s .buffer))) _ _ (λ l. omega (arith, subst (λ m. length file ≤ m) (sym e) l)))
 
     -- .. and another is, if there is a slot.
-    pub put-there : length file ≤ slotSize n (s .buffer) → (r : ℕ) → slotFor i slots ≡ asSlot n r →
+    pub put-there : (z : ℕ) → z ≡ slotSize n (s .buffer) → length file ≤ z → (r : ℕ) → slotFor i slots ≡ asSlot n r →
         putAnswer n i file s ≡ orRefused refusals.noSlot (asSlot n r)
     unfolding putIn andThen
-    put-there h r e =
+    put-there z q h r e =
         good-answer n s (putIn (slotSize n (s .buffer)) i file) g ∙
-        rw d (choose-yes (decLe (length file) (slotSize n (s .buffer))) _ _ h ∙ ap (orRefused refusals.noSlot) e)
+        rw d (choose-yes (decLe (length file) (slotSize n (s .buffer))) _ _ (subst (λ m. length file ≤ m) q h) ∙ ap (orRefused refusals.noSlot) e)
 
 -- The slot that a call is accepted with, or its refusal.
 pub or-accepted : (c r : ℕ) (o : Option ℕ) → o ≡ some r → orRefused c o ≡ accepted r
@@ -92,11 +93,11 @@ unfolding afterwards
 refused-left f s r c m a e = rw e
 
 -- .. and after the call was accepted with slot k.
-pub stored-left : (n k : ℕ) (bs ws : List ℕ) (s : Lent) (r : Read ℕ) (b o : List ℕ) → r ≡ accepted k →
-    b ≡ put (s .buffer) (k * slotSize n (s .buffer)) (bs ++ replicate (slotSize n (s .buffer) - length bs) 0) →
-    o ≡ putWords (s .owners) (3 * k) ws → record { buffer = b; owners = o } ≡ afterwards (stored n bs ws s) s r
+pub stored-left : (n k z : ℕ) (bs ws : List ℕ) (s : Lent) (r : Read ℕ) (b o : List ℕ) → r ≡ accepted k → z ≡ slotSize n (s .buffer) →
+    b ≡ put (s .buffer) (k * z) (bs ++ replicate (z - length bs) 0) → o ≡ putWords (s .owners) (3 * k) ws →
+    record { buffer = b; owners = o } ≡ afterwards (stored n bs ws s) s r
 unfolding afterwards stored
-stored-left n k bs ws s r b o e p q = rw (e, p, q)
+stored-left n k z bs ws s r b o e d p q = rw (e, p, q, d)
 
 -- A put that was refused, with what is there as it was ..
 pub put-stays : (n i : ℕ) (file : List ℕ) (s : Lent) (r : SlotRead) (c m a : ℕ) → slotRead r ≡ refused c m a →

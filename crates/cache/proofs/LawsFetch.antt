@@ -22,13 +22,13 @@ use Rattle.cache.specs.Meaning.{fetchAnswer, inBuffer}
 use Rattle.cache.specs.Owners.{Is, FirstRow}
 use Rattle.cache.specs.Calls.{Fetched, FetchPost}
 use Rattle.cache.proofs.LawsLowest.{Found, LowestAt, lowest-found}
-use Rattle.cache.proofs.LawsSlots.{slot-inside, length-slots, slots-at}
+use Rattle.cache.proofs.LawsSlots.{length-slots, slots-at}
 use Rattle.cache.proofs.LawsStored.{good-cache, fileAt, taken-slot}
 use Rattle.cache.proofs.LawsFound.{answered, or-refused-inv, found-at, of-held}
 use Rattle.cache.proofs.LawsCache.{fetch-file}
 use Rattle.cache.proofs.LawsHistory.{cache-once}
 use Rattle.cache.proofs.FetchOwn.{slot-bytes}
-use Rattle.cache.proofs.LawsJudged.{slot-of-row, as-none}
+use Rattle.cache.proofs.LawsJudged.{slot-room, slot-of-row, as-none}
 use Rattle.cache.proofs.LawsCalls.{good-answer}
 
 module _ (n i : ℕ) (s : Lent) where
@@ -53,10 +53,10 @@ module _ (n i : ℕ) (s : Lent) where
     fetch-missing h = good-answer n s (fetchIn i k) g ∙ rw (slot-of-row n s r i x ∙ as-none n r h)
 
     -- The slot's file lies in the buffer.
-    pub file-inside : r < n → r * slotSize n (s .buffer) + lengthAt (s .owners) r ≤ length (s .buffer)
-    file-inside h =
-        let room = slot-inside (slotSize n (s .buffer)) r n (s .buffer) h (g .buffer) in
-        let fits = g .rows .fits r h (x .such h .0) in
+    pub file-inside : (z : ℕ) → z ≡ slotSize n (s .buffer) → r < n → r * z + lengthAt (s .owners) r ≤ length (s .buffer)
+    file-inside z e h =
+        let room = slot-room n r z s g e h in
+        let fits : lengthAt (s .owners) r ≤ z = rw e (g .rows .fits r h (x .such h .0)) in
         omega arith
 
   -- An accepted fetch has found the slot that the instance holds ..
@@ -103,14 +103,14 @@ module _ (n i : ℕ) (s : Lent) where
       FetchPost n i k s q
   fetch-post k q e = record { answer = e; sound = λ p a. fetch-sound k p (sym e ∙ a) }
 
-  -- What the view q of the part of the buffer that is the slot's file answers, at the slot's place.
-  pub fetch-view : (k : ℕ) → Good n s → (r : ℕ) → FirstRow (Is (wanted.HeldBy i) (s .owners)) n r → r < n → (file : List ℕ) →
-      file ≡ fileAt n s r → (q v : ViewRead) → q ≡ v → viewOf q ≡ constantView file k →
-      mapRead (λ p. record { offset = r * slotSize n (s .buffer) + p .offset; size = p .size }) (viewOf v) ≡
+  -- What the view q of the part of the buffer that is the slot's file answers, at the slot's place; z is the slots' size.
+  pub fetch-view : (k : ℕ) → Good n s → (r : ℕ) → FirstRow (Is (wanted.HeldBy i) (s .owners)) n r → r < n → (z : ℕ) →
+      z ≡ slotSize n (s .buffer) → (file : List ℕ) → file ≡ take (lengthAt (s .owners) r) (drop (r * z) (s .buffer)) →
+      (q v : ViewRead) → q ≡ v → viewOf q ≡ constantView file k →
+      mapRead (λ p. record { offset = r * z + p .offset; size = p .size }) (viewOf v) ≡
       mapRead (inBuffer (slotSize n (s .buffer))) (fetchAnswer n i k s)
   unfolding mapRead
-  fetch-view k g r x h file e q v d a =
-      rw (sym d, a, e, fetch-there k g r x h) (again (constantView (fileAt n s r) k))
+  fetch-view k g r x h z o file e q v d a = rw (sym d, a, e, o, fetch-there k g r x h) (again (constantView (fileAt n s r) k))
     where
       again : (v : Read Span) →
           mapRead (λ p. record { offset = r * slotSize n (s .buffer) + p .offset; size = p .size }) v ≡

@@ -1,7 +1,7 @@
 -- How a cache is judged, and how a slot is found by the rows: as the model has it. Assumes nothing.
 use mathlib.Core.Path.{_≡_, refl, sym, ap, subst, _∙_}
-use Prim.Native.Nat.{ℕ, _/_, _%_, _≤_, _<_}
-use native.Mathlib.Nat.{div-add-mod, mul-mod-right}
+use Prim.Native.Nat.{ℕ, _+_, _*_, _/_, _%_, _≤_, _<_}
+use native.Mathlib.Nat.{mul-comm, div-mul-le-self}
 use native.Mathlib.Omega.{arith}
 use native.Mathlib.Decide.{decLt}
 use mathlib.Core.Bool.{Bool, false}
@@ -13,26 +13,31 @@ use Rattle.exact.proofs.LawsChoice.{choose-yes, choose-no}
 use Rattle.encoding.specs.Out.{Tells}
 use Rattle.cache.specs.declared.owners.Wanted.the-variants as wanted
 use Rattle.cache.specs.Cache.{Slot, free, Free, isFree, isHeldBy, lowest, slotOf, orElse}
-use Rattle.cache.specs.Lent.{Lent, markAt, Rows, Good, slotAt, slotsUpTo}
+use Rattle.cache.specs.Lent.{Lent, markAt, slotSize, Rows, Good, slotAt, slotsUpTo}
 use Rattle.cache.specs.Owners.{Is, FirstRow, Judged, asSlot, SlotFor}
 use Rattle.cache.proofs.LawsLowest.{found, nowhere, lowest-is}
-use Rattle.cache.proofs.LawsSlots.{length-slots, slots-at}
+use Rattle.cache.proofs.LawsSlots.{slot-inside, length-slots, slots-at}
 use Rattle.cache.proofs.LawsStored.{free-slot}
 use Rattle.cache.proofs.LawsFound.{held-of, of-held, of-free}
 use Rattle.cache.proofs.LawsOwners.{tells-no}
 
+-- The slots' size, by which a buffer's length is divided.
+pub whole-size : (len n z : ℕ) → z ≡ len / n → z * n ≤ len
+whole-size len n z e = rw e (div-mul-le-self len n)
+
 -- A buffer and an owner table of the right lengths are good if the rows are.
-pub judged-rows : (n len : ℕ) (owners : List ℕ) (t : Bool) → 0 < n → len % n ≡ 0 → length owners % 24 ≡ 0 → length owners / 24 ≡ n →
-    Tells (Rows (len / n) owners n) t → Judged len owners n t
-judged-rows n len owners t h a b c x buffer e =
+pub judged-rows : (n len z : ℕ) (owners : List ℕ) (t : Bool) → 0 < n → z ≡ len / n → z * n ≡ len → length owners % 24 ≡ 0 →
+    length owners / 24 ≡ n → Tells (Rows z owners n) t → Judged len owners n t
+judged-rows n len z owners t h d a b c x buffer e =
+    let q : z ≡ length buffer / n = d ∙ ap (λ m. m / n) (sym e) in
     record {
-      holds = λ q. record {
+      holds = λ y. record {
         slots = h;
-        buffer = sym (rw e (omega (arith, div-add-mod len n)));
+        buffer = e ∙ sym a ∙ mul-comm z n ∙ ap (λ m. n * m) q;
         owners = omega arith;
-        rows = rw e (x .holds q);
+        rows = subst (λ m. Rows m owners n) q (x .holds y);
       };
-      fails = λ q g. x .fails q (rw e at (g .rows));
+      fails = λ y g. x .fails y (subst (λ m. Rows m owners n) (sym q) (g .rows));
     }
 
 -- A test that fails where no cache can be.
@@ -40,9 +45,15 @@ pub judged-not : (n len : ℕ) (owners : List ℕ) → ((b : List ℕ) → lengt
     Judged len owners n false
 judged-not n len owners h b e = tells-no refl (h b e)
 
--- A buffer that is no multiple, and an owner table of another number of rows.
-pub no-multiple : (n len : ℕ) (owners b : List ℕ) → ¬ (len % n ≡ 0) → length b ≡ len → ¬ Good n (record { buffer = b; owners = owners })
-no-multiple n len owners b h e g = h (ap (λ m. m % n) (sym e ∙ g .buffer) ∙ mul-mod-right n (length b / n))
+-- A buffer that is no multiple.
+pub no-multiple : (n len z : ℕ) (owners b : List ℕ) → z ≡ len / n → ¬ (z * n ≡ len) → length b ≡ len →
+    ¬ Good n (record { buffer = b; owners = owners })
+no-multiple n len z owners b d h e g =
+    h (ap (λ m. m * n) (d ∙ ap (λ m. m / n) (sym e)) ∙ mul-comm (length b / n) n ∙ sym (g .buffer) ∙ e)
+
+-- A slot has room in the buffer.
+pub slot-room : (n k z : ℕ) (s : Lent) → Good n s → z ≡ slotSize n (s .buffer) → k < n → k * z + z ≤ length (s .buffer)
+slot-room n k z s g e h = rw e (slot-inside (slotSize n (s .buffer)) k n (s .buffer) h (g .buffer))
 
 -- A row that is not past the last is one of them.
 pub below : (n r : ℕ) → r ≤ n → ¬ (r ≡ n) → r < n

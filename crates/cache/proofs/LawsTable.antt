@@ -1,13 +1,13 @@
 -- What words put into an owner table leave there: the row that was put, and every other row as it was. Assumes nothing.
 use mathlib.Core.Path.{_≡_, refl, sym, ap, _∙_}
 use mathlib.Core.Logic.{_⊎_, inl, inr}
-use Prim.Native.Nat.{ℕ, zero, suc, _+_, _*_, _/_, _^_, _≤_, _<_}
+use Prim.Native.Nat.{ℕ, zero, suc, _+_, _-_, _*_, _/_, _^_, _≤_, _<_}
 use native.Mathlib.Nat.{add-zero}
 use native.Mathlib.Omega.{arith}
 use native.Mathlib.Decide.{decLt}
-use mathlib.Core.List.{List, [], _∷_}
-use lib.ListN.{length, take, drop, getD, length-take, length-drop}
-use lib.Seq.{getD-take, getD-drop, ext-getD}
+use mathlib.Core.List.{List, [], _∷_, _++_}
+use lib.ListN.{length, take, drop, getD, length-take, length-drop, take-append-drop}
+use lib.Seq.{length-take-le, getD-take, getD-drop, drop-drop, drop-append-le, take-append-le, ext-getD}
 use Rattle.exact.specs.Fixed.{bytesOf, little}
 use Rattle.exact.proofs.LawsSteps.{nums-at}
 use Rattle.exact.proofs.LawsFixed.{length-bytesOf, little-bytesOf}
@@ -117,3 +117,26 @@ row-kept k l ws owners e h =
   where
     other : (j : ℕ) → 3 * l ≤ j → j < 3 * l + 3 → getD (wordsIn (putWords owners (3 * k) ws)) j 0 ≡ getD (wordsIn owners) j 0
     other j a b = words-kept ws owners (3 * k) j (λ d c p. omega arith)
+
+-- A part of what some bytes begin with is a part of them.
+pub part-bytes : (l f r : List ℕ) (at size : ℕ) → l ≡ f ++ r → at + size ≤ length f → take size (drop at l) ≡ take size (drop at f)
+part-bytes l f r at size e h =
+    let a : at ≤ length f = omega arith in
+    let b : size ≤ length (drop at f) = omega (arith, length-drop at f) in
+    rw (e, drop-append-le at f r a, take-append-le size (drop at f) r b)
+
+-- The words of a row that is lent by itself are the table's.
+pub row-word : (owners : List ℕ) (k j : ℕ) → k * 24 + 24 ≤ length owners → j < 3 →
+    getD (wordsIn (take (k * 24 + 24 - k * 24) (drop (k * 24) owners))) j 0 ≡ getD (wordsIn owners) (3 * k + j) 0
+row-word owners k j h i =
+    let rest : List ℕ = drop (k * 24) owners in
+    let e : k * 24 + 24 - k * 24 ≡ 24 = omega arith in
+    let d : length rest ≡ length owners - k * 24 = length-drop (k * 24) owners in
+    let m : length (take 24 rest) ≡ 24 = length-take-le 24 rest (omega arith) in
+    let q : k * 24 + j * 8 ≡ (3 * k + j) * 8 = omega arith in
+    ap (λ n. getD (wordsIn (take n rest)) j 0) e ∙
+    word-bytes (take 24 rest) j (omega arith) ∙
+    ap little
+    (sym (part-bytes rest (take 24 rest) (drop 24 rest) (j * 8) 8 (sym (take-append-drop 24 rest)) (omega arith)) ∙
+    ap (take 8) (drop-drop (j * 8) (k * 24) owners ∙ ap (λ a. drop a owners) q)) ∙
+    sym (word-bytes owners (3 * k + j) (omega arith))

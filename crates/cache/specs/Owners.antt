@@ -10,9 +10,14 @@ use lib.ListN.{length}
 use Rattle.exact.specs.Choice.{choose}
 use Rattle.encoding.specs.Out.{Tells}
 use Rattle.cache.specs.Cache.{slotFor}
-use Rattle.cache.specs.Lent.{markAt, instanceAt, Taken, Good, slotAt, slotsUpTo}
+use Rattle.cache.specs.Lent.{markAt, instanceAt, lengthAt, Taken, Good, slotAt, slotsUpTo}
+use Rattle.cache.specs.declared.owners.Row.{Row}
 use Rattle.cache.specs.declared.owners.Wanted.{Wanted}
 use Rattle.cache.specs.declared.owners.Wanted.the-variants as wanted
+
+-- Row k.
+abbrev pub rowAt : List ℕ → ℕ → Row
+rowAt owners k = record { mark = markAt owners k; instance = instanceAt owners k; len = lengthAt owners k }
 
 -- Row k is what is wanted: free, or taken by this instance.
 abbrev pub Is : Wanted → List ℕ → ℕ → Type 0

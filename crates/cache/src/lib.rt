@@ -4,7 +4,7 @@ mod owners;
 
 ghost use mathlib.Core.Path.{_≡_};
 ghost use mathlib.Core.List.{_++_};
-ghost use Prim.Native.Nat.{_+_, _-_, _*_, _≤_};
+ghost use Prim.Native.Nat.{_+_, _-_, _*_, _/_, _≤_};
 ghost use lib.ListN.{length, replicate};
 ghost use Rattle.encoding.specs.Out.{put};
 ghost use Rattle.decoder.specs.Views.{Accepted};
@@ -37,14 +37,25 @@ fn stopped(no: u8) -> Stopped
     }
 }
 
-// Whether a buffer of so many bytes and an owner table stand for a cache.
-fn judged(len: usize, owners: &[u8], slots: usize) -> bool
+// How many bytes a slot has: it is divided once.
+fn slot_size(len: usize, slots: usize) -> usize
+    ensures { λ r. ⌜ r ≡ len / slots ⌝ }
+{
+    if slots == 0 {
+        return 0;
+    }
+    len / slots
+}
+
+// Whether a buffer of so many bytes, in slots of `size`, and an owner table stand for a cache.
+fn judged(len: usize, size: usize, owners: &[u8], slots: usize) -> bool
+    requires { ⌜ size ≡ len / slots ⌝ }
     ensures { λ r. ⌜ Judged len (now (owners .entry)) slots r ⌝ }
 {
     if slots == 0 {
         return false;
     }
-    if len % slots != 0 {
+    if size * slots != len {
         return false;
     }
     if owners.len() % 24 != 0 {
@@ -53,7 +64,7 @@ fn judged(len: usize, owners: &[u8], slots: usize) -> bool
     if owners.len() / 24 != slots {
         return false;
     }
-    owners::rows_good(owners, slots, (len / slots) as u64)
+    owners::rows_good(owners, slots, size as u64)
 }
 
 // The slot that a file of this instance goes to: the one that it holds, else the lowest free one; else the number of slots.
@@ -82,13 +93,13 @@ fn put_accepted(
     cache: &mut [u8],
     owners: &mut [u8],
     slots: usize,
+    size: usize,
     instance: u64,
     file: &[u8],
 ) -> SlotRead
-    requires { ⌜ Good slots (record { buffer = now cache; owners = now owners }) × Accepted (now file) ⌝ }
+    requires { ⌜ Good slots (record { buffer = now cache; owners = now owners }) × Accepted (now file) × (size ≡ length (now cache) / slots) ⌝ }
     ensures { λ r. ⌜ Writes (putAnswer slots instance (now (file .entry))) (putLent slots instance (now (file .entry))) (record { buffer = now (cache .entry); owners = now (owners .entry) }) (record { buffer = now (cache .exit); owners = now (owners .exit) }) r ⌝ }
 {
-    let size = cache.len() / slots;
     if size < file.len() {
         return SlotRead::Stop(stopped(Refusal::FULL));
     }
@@ -111,12 +122,13 @@ pub fn put(
 ) -> SlotRead
     ensures { λ r. ⌜ PutPost slots instance (now (file .entry)) (record { buffer = now (cache .entry); owners = now (owners .entry) }) (record { buffer = now (cache .exit); owners = now (owners .exit) }) r ⌝ }
 {
-    if !judged(cache.len(), owners, slots) {
+    let size = slot_size(cache.len(), slots);
+    if !judged(cache.len(), size, owners, slots) {
         return SlotRead::Stop(stopped(Refusal::SHEET));
     }
     match decoder::measure(file) {
         FileRead::Stop(x) => SlotRead::Stop(x),
-        FileRead::Got(_) => put_accepted(cache, owners, slots, instance, file),
+        FileRead::Got(_) => put_accepted(cache, owners, slots, size, instance, file),
     }
 }
 
@@ -125,15 +137,17 @@ pub fn put(
 pub fn fetch(cache: &[u8], owners: &[u8], slots: usize, instance: u64, index: u64) -> ViewRead
     ensures { λ r. ⌜ FetchPost slots instance index (record { buffer = now (cache .entry); owners = now (owners .entry) }) r ⌝ }
 {
-    if !judged(cache.len(), owners, slots) {
+    let size = slot_size(cache.len(), slots);
+    if !judged(cache.len(), size, owners, slots) {
         return ViewRead::Stop(stopped(Refusal::SHEET));
     }
     let slot = owners::first_row(owners, slots, Wanted::HeldBy(instance));
     if slot == slots {
         return ViewRead::Stop(stopped(Refusal::ABSENT));
     }
-    let start = slot * (cache.len() / slots);
-    let end = start + owners::length(owners, slot) as usize;
+    let start = slot * size;
+    let row = owners::row_at(owners, slot);
+    let end = start + row.len as usize;
     match decoder::constant(&cache[start..end], index) {
         ViewRead::Stop(x) => ViewRead::Stop(x),
         ViewRead::Got(view) => ViewRead::Got(View {
@@ -147,14 +161,14 @@ pub fn fetch(cache: &[u8], owners: &[u8], slots: usize, instance: u64, index: u6
 pub fn drop(cache: &mut [u8], owners: &mut [u8], slots: usize, instance: u64) -> SlotRead
     ensures { λ r. ⌜ DropPost slots instance (record { buffer = now (cache .entry); owners = now (owners .entry) }) (record { buffer = now (cache .exit); owners = now (owners .exit) }) r ⌝ }
 {
-    if !judged(cache.len(), owners, slots) {
+    let size = slot_size(cache.len(), slots);
+    if !judged(cache.len(), size, owners, slots) {
         return SlotRead::Stop(stopped(Refusal::SHEET));
     }
     let slot = owners::first_row(owners, slots, Wanted::HeldBy(instance));
     if slot == slots {
         return SlotRead::Stop(stopped(Refusal::ABSENT));
     }
-    let size = cache.len() / slots;
     let none: [u8; 0] = [];
     fill_slot(cache, slot * size, size, &none);
     owners::put_row(owners, slot, 0, 0, 0);

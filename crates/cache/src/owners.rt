@@ -5,10 +5,17 @@ ghost use mathlib.Core.Path.{_≡_};
 ghost use mathlib.Core.List.{[], _∷_};
 ghost use Rattle.encoding.specs.Out.{Tells};
 ghost use Rattle.sheet.specs.Store.{putWords};
-ghost use Rattle.cache.specs.Lent.{markAt, instanceAt, lengthAt, Taken, Rows};
-ghost use Rattle.cache.specs.Owners.{bucketOf, Is, FirstRow};
+ghost use Rattle.cache.specs.Lent.{Rows};
+ghost use Rattle.cache.specs.Owners.{rowAt, bucketOf, Is, FirstRow};
 use sheet::put_word;
 use sheet::word_at;
+
+// A row: mark 0 is free, and anything else is taken.
+pub struct Row {
+    pub mark: u64,
+    pub instance: u64,
+    pub len: u64,
+}
 
 // What a row is looked for by.
 pub enum Wanted {
@@ -16,26 +23,19 @@ pub enum Wanted {
     HeldBy(u64),
 }
 
-// 0 is free, and anything else is taken.
-fn mark(owners: &[u8], row: usize) -> u64
+// Reads a row. Its bytes are lent by themselves, so that the compiler sees that its words are there.
+pub fn row_at(owners: &[u8], row: usize) -> Row
     requires { ⌜ row * 24 + 24 ≤ length (now owners) ⌝ }
-    ensures { λ r. ⌜ r ≡ markAt (now (owners .entry)) row ⌝ }
+    ensures { λ r. ⌜ r ≡ rowAt (now (owners .entry)) row ⌝ }
 {
-    word_at(owners, 3 * row)
-}
-
-fn instance(owners: &[u8], row: usize) -> u64
-    requires { ⌜ row * 24 + 24 ≤ length (now owners) ⌝ }
-    ensures { λ r. ⌜ r ≡ instanceAt (now (owners .entry)) row ⌝ }
-{
-    word_at(owners, 3 * row + 1)
-}
-
-pub fn length(owners: &[u8], row: usize) -> u64
-    requires { ⌜ row * 24 + 24 ≤ length (now owners) ⌝ }
-    ensures { λ r. ⌜ r ≡ lengthAt (now (owners .entry)) row ⌝ }
-{
-    word_at(owners, 3 * row + 2)
+    let start = row * 24;
+    let end = start + 24;
+    let words = &owners[start..end];
+    Row {
+        mark: word_at(words, 0),
+        instance: word_at(words, 1),
+        len: word_at(words, 2),
+    }
 }
 
 // Writes a whole row.
@@ -53,9 +53,10 @@ fn is_wanted(owners: &[u8], row: usize, wanted: Wanted) -> bool
     requires { ⌜ row * 24 + 24 ≤ length (now owners) ⌝ }
     ensures { λ r. ⌜ Tells (Is wanted (now (owners .entry)) row) r ⌝ }
 {
+    let found = row_at(owners, row);
     match wanted {
-        Wanted::Free => mark(owners, row) == 0,
-        Wanted::HeldBy(i) => mark(owners, row) != 0 && instance(owners, row) == i,
+        Wanted::Free => found.mark == 0,
+        Wanted::HeldBy(i) => found.mark != 0 && found.instance == i,
     }
 }
 
@@ -90,14 +91,14 @@ pub fn rows_good(owners: &[u8], rows: usize, size: u64) -> bool
     let mut seen = [false; 512];
     let mut row = 0;
     while row < rows {
-        if mark(owners, row) != 0 {
-            if size < length(owners, row) {
+        let this = row_at(owners, row);
+        if this.mark != 0 {
+            if size < this.len {
                 return false;
             }
-            let i = instance(owners, row);
-            let at = bucket(i);
+            let at = bucket(this.instance);
             if seen[at] {
-                if first_row(owners, row, Wanted::HeldBy(i)) < row {
+                if first_row(owners, row, Wanted::HeldBy(this.instance)) < row {
                     return false;
                 }
             }

@@ -7,15 +7,17 @@ use borrow.Author.Tests.{not-true, not-false}
 use Rattle.format.specs.Read.{mapRead}
 use Rattle.container.specs.declared.ViewRead.the-variants as view
 use Rattle.container.specs.Views.{viewOf}
-use Rattle.cache.specs.Lent.{slotSize}
 use Rattle.cache.proofs.LawsJudged.{below}
 use Rattle.cache.proofs.LawsCalls.{bad-answer}
 use Rattle.cache.proofs.LawsFetch.{fetch-missing, file-inside, fetch-post, fetch-view, part-is, view-begins}
 use Rattle.cache.proofs.fetch.Statement.{statement}
 use Rattle.cache.proofs.fetch.Tie as tie
 
+slot-size-requires : tie.Need-slot-size-requires
+slot-size-requires c κs = search needs
+
 judged-requires : tie.Need-judged-requires
-judged-requires c κs = search needs
+judged-requires c κs = c .slot-size .ensures
 
 stopped-requires : tie.Need-stopped-requires
 stopped-requires c κs = search needs
@@ -23,7 +25,7 @@ stopped-requires c κs = search needs
 returns : tie.Need-returns
 unfolding mapRead
 returns c =
-    let o = c .before .before .before .before .before in
+    let o = c .before .before .before .before .before .before in
     let t = c .before .before .judged .ensures (o .args .cache .now) refl in
     fetch-post _ _ _ _ _
     (ap (λ x. viewOf (view.Stop x)) (c .stopped .ensures) ∙
@@ -31,7 +33,7 @@ returns c =
 
 first-row-requires : tie.Need-first-row-requires
 first-row-requires c κs =
-    let o = c .before .before .before .before in
+    let o = c .before .before .before .before .before in
     let g = c .before .judged .ensures (o .args .cache .now) refl .holds (not-false _ (c .if1 .left)) in
     omega (arith, g .owners)
 
@@ -43,32 +45,32 @@ unfolding mapRead
 returns-2 c =
     let f = c .before .before in
     let l = f .before in
-    let o = l .before .before .before .before in
+    let z = l .before .before .slot-size .ensures in
+    let o = l .before .before .before .before .before in
     let g = l .before .judged .ensures (o .args .cache .now) refl .holds (not-false _ (l .if1 .left)) in
     fetch-post _ _ _ _ _
     (ap (λ x. viewOf (view.Stop x)) (c .stopped2 .ensures) ∙
     sym (ap (mapRead _) (fetch-missing _ _ _ _ g _ (f .first-row .ensures) (omega (arith, c .before .if2 .taken)))))
-
-div-start : tie.Need-div-start
-div-start c = search needs
 
 mul-start : tie.Need-mul-start
 mul-start c =
     let w = c in
     let f = w .before in
     let l = f .before in
-    let o = l .before .before .before .before in
+    let z = l .before .before .slot-size .ensures in
+    let o = l .before .before .before .before .before in
     let g = l .before .judged .ensures (o .args .cache .now) refl .holds (not-false _ (l .if1 .left)) in
     let x = f .first-row .ensures in
     let h = below _ _ (x .inside) (w .if2 .left) in
-    omega (arith, file-inside _ _ _ (o .args .index) g _ x h)
+    omega (arith, file-inside _ _ _ (o .args .index) g _ x _ z h)
 
-length-requires : tie.Need-length-requires
-length-requires c κs =
+row-at-requires : tie.Need-row-at-requires
+row-at-requires c κs =
     let w = c in
     let f = w .before in
     let l = f .before in
-    let o = l .before .before .before .before in
+    let z = l .before .before .slot-size .ensures in
+    let o = l .before .before .before .before .before in
     let g = l .before .judged .ensures (o .args .cache .now) refl .holds (not-false _ (l .if1 .left)) in
     let x = f .first-row .ensures in
     let h = below _ _ (x .inside) (w .if2 .left) in
@@ -79,11 +81,12 @@ add-end c =
     let w = c .before in
     let f = w .before in
     let l = f .before in
-    let o = l .before .before .before .before in
+    let z = l .before .before .slot-size .ensures in
+    let o = l .before .before .before .before .before in
     let g = l .before .judged .ensures (o .args .cache .now) refl .holds (not-false _ (l .if1 .left)) in
     let x = f .first-row .ensures in
     let h = below _ _ (x .inside) (w .if2 .left) in
-    omega (arith, c .length .ensures, file-inside _ _ _ (o .args .index) g _ x h)
+    omega (arith, ap (λ r. r .len) (c .row-at .ensures), file-inside _ _ _ (o .args .index) g _ x _ z h)
 
 sub-constant : tie.Need-sub-constant
 sub-constant c = search needs
@@ -96,12 +99,13 @@ part-constant-end c =
     let w = c .before in
     let f = w .before in
     let l = f .before in
-    let o = l .before .before .before .before in
+    let z = l .before .before .slot-size .ensures in
+    let o = l .before .before .before .before .before in
     let g = l .before .judged .ensures (o .args .cache .now) refl .holds (not-false _ (l .if1 .left)) in
     let x = f .first-row .ensures in
     let h = below _ _ (x .inside) (w .if2 .left) in
-    let e = c .length .ensures in
-    let q = file-inside _ _ _ (o .args .index) g _ x h in
+    let e = ap (λ r. r .len) (c .row-at .ensures) in
+    let q = file-inside _ _ _ (o .args .index) g _ x _ z h in
     search needs
 
 constant-requires : tie.Need-constant-requires
@@ -120,15 +124,16 @@ add-t24 c =
     let w = q .before in
     let f = w .before in
     let l = f .before in
-    let o = l .before .before .before .before in
+    let z = l .before .before .slot-size .ensures in
+    let o = l .before .before .before .before .before in
     let g = l .before .judged .ensures (o .args .cache .now) refl .holds (not-false _ (l .if1 .left)) in
     let x = f .first-row .ensures in
     let h = below _ _ (x .inside) (w .if2 .left) in
-    let room = file-inside _ _ _ (o .args .index) g _ x h in
-    let e = q .length .ensures in
+    let room = file-inside _ _ _ (o .args .index) g _ x _ z h in
+    let e = ap (λ r. r .len) (q .row-at .ensures) in
     let v = p .constant .ensures .sound _ (ap viewOf (c .before .before .view .given .1)) in
-    let start = f .first-row .result * slotSize (o .args .slots) (o .args .cache .now) in
-    omega (arith, view-begins (o .args .cache .now) start (q .length .result) _ _ v (omega (arith, room, e)))
+    let start = f .first-row .result * l .before .before .slot-size .result in
+    omega (arith, view-begins (o .args .cache .now) start (q .row-at .result .len) _ _ v (omega (arith, room, e)))
 
 returns-3 : tie.Need-returns-3
 unfolding mapRead
@@ -138,12 +143,13 @@ returns-3 c =
     let w = q .before in
     let f = w .before in
     let l = f .before in
-    let o = l .before .before .before .before in
+    let z = l .before .before .slot-size .ensures in
+    let o = l .before .before .before .before .before in
     let g = l .before .judged .ensures (o .args .cache .now) refl .holds (not-false _ (l .if1 .left)) in
     let x = f .first-row .ensures in
     let h = below _ _ (x .inside) (w .if2 .left) in
     fetch-post _ _ _ _ _
-    (fetch-view _ _ _ _ g _ x h _ (part-is (o .args .cache .now) _ _ _ (q .length .ensures)) (p .constant .result) _ (c .before .x .given .1)
+    (fetch-view _ _ _ _ g _ x h _ z _ (part-is (o .args .cache .now) _ _ _ (ap (λ r. r .len) (q .row-at .ensures))) (p .constant .result) _ (c .before .x .given .1)
     (p .constant .ensures .answer))
 
 returns-4 : tie.Need-returns-4
@@ -154,27 +160,28 @@ returns-4 c =
     let w = q .before in
     let f = w .before in
     let l = f .before in
-    let o = l .before .before .before .before in
+    let z = l .before .before .slot-size .ensures in
+    let o = l .before .before .before .before .before in
     let g = l .before .judged .ensures (o .args .cache .now) refl .holds (not-false _ (l .if1 .left)) in
     let x = f .first-row .ensures in
     let h = below _ _ (x .inside) (w .if2 .left) in
     fetch-post _ _ _ _ _
-    (fetch-view _ _ _ _ g _ x h _ (part-is (o .args .cache .now) _ _ _ (q .length .ensures)) (p .constant .result) _
+    (fetch-view _ _ _ _ g _ x h _ z _ (part-is (o .args .cache .now) _ _ _ (ap (λ r. r .len) (q .row-at .ensures))) (p .constant .result) _
     (c .before .before .view .given .1) (p .constant .ensures .answer))
 
 pub fetch-spec : {M : Type 1} → statement M
 fetch-spec =
     tie.close
     (tie.spec
+    slot-size-requires
     judged-requires
     stopped-requires
     returns
     first-row-requires
     stopped-requires-2
     returns-2
-    div-start
     mul-start
-    length-requires
+    row-at-requires
     add-end
     sub-constant
     part-constant-start

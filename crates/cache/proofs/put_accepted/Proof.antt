@@ -4,14 +4,10 @@ use native.Mathlib.Omega.{arith}
 use borrow.Author.Needs.{needs}
 use Rattle.cache.specs.declared.SlotRead.the-variants as slot
 use Rattle.cache.specs.Calls.{slotRead}
-use Rattle.cache.proofs.LawsSlots.{slot-inside}
-use Rattle.cache.proofs.LawsJudged.{below, as-slot, as-none}
+use Rattle.cache.proofs.LawsJudged.{below, slot-room, as-slot, as-none}
 use Rattle.cache.proofs.LawsCalls.{accepted-decode, put-large, put-there, or-accepted, or-refused, put-stays, stored-left}
 use Rattle.cache.proofs.put_accepted.Statement.{statement}
 use Rattle.cache.proofs.put_accepted.Tie as tie
-
-div-size : tie.Need-div-size
-div-size c = search needs
 
 stopped-requires : tie.Need-stopped-requires
 stopped-requires c κs = search needs
@@ -20,7 +16,8 @@ returns : tie.Need-returns
 returns c =
     let o = c .before .before .before .before .before in
     let (t, d) = accepted-decode _ (o .pre .1) in
-    put-stays _ _ _ _ _ _ _ _ (ap (λ x. slotRead (slot.Stop x)) (c .stopped .ensures)) (put-large _ _ _ _ (o .pre .0) t d (c .before .if1 .taken))
+    put-stays _ _ _ _ _ _ _ _ (ap (λ x. slotRead (slot.Stop x)) (c .stopped .ensures))
+    (put-large _ _ _ _ (o .pre .0) t d _ (o .pre .2) (c .before .if1 .taken))
 
 slot-for-requires : tie.Need-slot-for-requires
 slot-for-requires c κs = search needs
@@ -38,20 +35,20 @@ returns-2 c =
     let o = p .before .before .before .before in
     let (t, d) = accepted-decode _ (o .pre .1) in
     put-stays _ _ _ _ _ _ _ _ (ap (λ x. slotRead (slot.Stop x)) (c .stopped2 .ensures))
-    (put-there _ _ _ _ (o .pre .0) t d (p .if1 .left) _ (x .slot _) ∙
+    (put-there _ _ _ _ (o .pre .0) t d _ (o .pre .2) (p .if1 .left) _ (x .slot _) ∙
     or-refused _ _ (as-none _ _ (omega (arith, c .before .if2 .taken))))
 
 mul-fill-slot : tie.Need-mul-fill-slot
 mul-fill-slot c =
     let x = c .before .before .slot-for .ensures in
     let o = c .before .before .before .before .before .before .before .before in
-    omega (arith, slot-inside _ _ _ (o .args .cache .now) (below _ _ (x .inside) (c .before .if2 .left)) (o .pre .0 .buffer))
+    omega (arith, slot-room _ _ _ _ (o .pre .0) (o .pre .2) (below _ _ (x .inside) (c .before .if2 .left)))
 
 fill-slot-requires : tie.Need-fill-slot-requires
 fill-slot-requires c κs =
     let x = c .before .before .slot-for .ensures in
     let o = c .before .before .before .before .before .before .before .before in
-    (slot-inside _ _ _ (o .args .cache .now) (below _ _ (x .inside) (c .before .if2 .left)) (o .pre .0 .buffer), c .before .before .before .before .if1 .left)
+    (slot-room _ _ _ _ (o .pre .0) (o .pre .2) (below _ _ (x .inside) (c .before .if2 .left)), c .before .before .before .before .if1 .left)
 
 put-row-requires : tie.Need-put-row-requires
 put-row-requires c κs = search needs
@@ -71,14 +68,13 @@ returns-3 c =
     let l = w .before .before .before in
     let o = l .before .before .before .before in
     let (t, d) = accepted-decode _ (o .pre .1) in
-    let q = put-there _ _ _ _ (o .pre .0) t d (l .if1 .left) _ (x .slot _) ∙ or-accepted _ _ _ (as-slot _ _ (below _ _ (x .inside) (w .if2 .left))) in
-    record { answered = sym q; left = stored-left _ _ _ _ _ _ _ _ q (f .fill-slot .ensures) (p .put-row .ensures) }
+    let q = put-there _ _ _ _ (o .pre .0) t d _ (o .pre .2) (l .if1 .left) _ (x .slot _) ∙ or-accepted _ _ _ (as-slot _ _ (below _ _ (x .inside) (w .if2 .left))) in
+    record { answered = sym q; left = stored-left _ _ _ _ _ _ _ _ _ q (o .pre .2) (f .fill-slot .ensures) (p .put-row .ensures) }
 
 pub put-accepted-spec : {M : Type 1} → statement M
 put-accepted-spec =
     tie.close
     (tie.spec
-    div-size
     stopped-requires
     returns
     slot-for-requires

@@ -8,49 +8,34 @@ use Rattle.cache.proofs.LawsOwners.{tells-no, tells-equal}
 use Rattle.cache.proofs.owners.is_wanted.Statement.{statement}
 use Rattle.cache.proofs.owners.is_wanted.Tie as tie
 
+row-at-requires : tie.Need-row-at-requires
+row-at-requires c κs = search needs
+
 enum-told : tie.Need-enum-told
 enum-told c = search needs
-
-mark-requires : tie.Need-mark-requires
-mark-requires c κs = search needs
 
 enum-known-wanted : tie.Need-enum-known-wanted
 enum-known-wanted c = search needs
 
-mark-requires-2 : tie.Need-mark-requires-2
-mark-requires-2 c κs = search needs
-
-instance-requires : tie.Need-instance-requires
-instance-requires c κs = search needs
-
 returns : tie.Need-returns
 returns c =
-    let e = c .mark .ensures in
-    rw (c .before .enum-told .given .1) (tells-equal _ _ (λ q. sym e ∙ q) (λ q. e ∙ q))
+    let m = ap (λ r. r .mark) (c .before .before .before .row-at .ensures) in
+    rw (c .before .enum-told .given .1) (tells-equal _ _ (λ q. sym m ∙ q) (λ q. m ∙ q))
 
 returns-2 : tie.Need-returns-2
 returns-2 c =
-    let e = c .instance .ensures in
-    let m = c .before .before .mark2 .ensures in
+    let r = c .before .before .before .before .before .before .row-at .ensures in
+    let m = ap (λ r. r .mark) r in
+    let e = ap (λ r. r .instance) r in
     let t = c .before .if1 .taken in
     rw (c .before .before .before .before .wanted .given .1)
     (tells-equal _ _ (λ q. (omega (arith, m), sym e ∙ q)) (λ q. e ∙ q .1))
 
 returns-3 : tie.Need-returns-3
 returns-3 c =
-    let m = c .before .mark2 .ensures in
+    let m = ap (λ r. r .mark) (c .before .before .before .before .before .row-at .ensures) in
     rw (c .before .before .before .wanted .given .1)
-    (tells-no (ap not (eq-eqb _ _ (c .if1 .left))) (λ p. omega (arith, p .0, c .if1 .left)))
+    (tells-no (ap not (eq-eqb _ _ (c .if1 .left))) (λ p. omega (arith, p .0, c .if1 .left, m)))
 
 pub is-wanted-spec : {M : Type 1} → statement M
-is-wanted-spec =
-    tie.close
-    (tie.spec
-    enum-told
-    mark-requires
-    enum-known-wanted
-    mark-requires-2
-    instance-requires
-    returns
-    returns-2
-    returns-3)
+is-wanted-spec = tie.close (tie.spec row-at-requires enum-told enum-known-wanted returns returns-2 returns-3)

@@ -1,6 +1,6 @@
 -- `rows_good` tells whether the rows are good: in its loop, those so far are, and their instances are marked as seen.
 -- Assumes nothing.
-use mathlib.Core.Path.{_≡_, refl, subst, _∙_}
+use mathlib.Core.Path.{_≡_, refl, ap, subst, _∙_}
 use Prim.Native.Nat.{_-_, _≤_}
 use native.Mathlib.Omega.{arith}
 use mathlib.Core.Logic.{⊎-elim}
@@ -33,21 +33,17 @@ abbrev μ-loop : tie.MeasureT-loop
 loop-holds : tie.Need-loop-holds Inv-loop μ-loop
 loop-holds c = (omega arith, record { size = refl; rows = no-rows _ _; marks = λ l h. absurd (omega arith) })
 
-mark-requires : tie.Need-mark-requires Inv-loop μ-loop
-mark-requires c κs = search needs
-
-length-requires : tie.Need-length-requires Inv-loop μ-loop
-length-requires c κs = search needs
+row-at-requires : tie.Need-row-at-requires Inv-loop μ-loop
+row-at-requires c κs = search needs
 
 returns : tie.Need-returns Inv-loop μ-loop
 returns c =
-    let k = c .before .length .ensures in
-    let m = c .before .before .before .mark .ensures in
+    let p = c .before .before .before .before in
+    let r = p .row-at .ensures in
+    let k = ap (λ r. r .len) r in
+    let m = ap (λ r. r .mark) r in
     let t = c .before .before .if1 .taken in
-    tells-no refl (not-fitting (c .before .before .before .before .loop-test .taken) (omega arith) (omega (arith, c .if2 .taken)))
-
-instance-requires : tie.Need-instance-requires Inv-loop μ-loop
-instance-requires c κs = search needs
+    tells-no refl (not-fitting (p .before .loop-test .taken) (omega arith) (omega (arith, k, c .if2 .taken)))
 
 bucket-requires : tie.Need-bucket-requires Inv-loop μ-loop
 bucket-requires c κs = search needs
@@ -61,14 +57,15 @@ first-row-requires c κs = search needs
 returns-2 : tie.Need-returns-2 Inv-loop μ-loop
 returns-2 c =
     let f = c .before .first-row .ensures in
-    let p = c .before .before .before .before in
-    let i = p .instance .ensures in
-    let q = p .before .before .before in
-    let m = q .before .mark .ensures in
+    let q = c .before .before .before .before .before .before in
+    let p = q .before .before in
+    let r = p .row-at .ensures in
+    let i = ap (λ r. r .instance) r in
+    let m = ap (λ r. r .mark) r in
     let t = q .if1 .taken in
     let h = c .if4 .taken in
     tells-no refl
-    (not-once (q .before .before .loop-test .taken) (omega arith) _ h (f .such h .0, f .such h .1 ∙ i))
+    (not-once (p .before .loop-test .taken) (omega arith) _ h (f .such h .0, f .such h .1 ∙ i))
 
 array-write-seen : tie.Need-array-write-seen Inv-loop μ-loop
 array-write-seen c = search needs
@@ -81,14 +78,18 @@ loop-less c = search needs
 
 loop-again : tie.Need-loop-again Inv-loop μ-loop
 loop-again c =
-    let l = c .before .before .before .loop in
-    let m = c .before .mark .ensures in (
-      omega (arith, c .before .before .loop-test .taken),
+    let p = c .before .before in
+    let l = p .before .before .loop in
+    let r = p .row-at .ensures in
+    let m = ap (λ r. r .mark) r in
+    let i = ap (λ r. r .instance) r in
+    let k = ap (λ r. r .len) r in (
+      omega (arith, p .before .loop-test .taken),
       ⊎-elim
-          (λ w. taken-turn (l .inv .1) _ _ _ (w .3 .ensures) (w .4 .ensures) (w .6) (omega (arith, w .1 .ensures, w .2 .left))
+          (λ w. taken-turn (l .inv .1) _ _ _ i (w .3 .ensures) (w .5) (omega (arith, k, w .2 .left))
           (⊎-elim (λ v. none-earlier (v .1 .ensures) (λ h. omega (arith, h, v .2 .left)))
           (λ v. unseen _ (l .seen) _ _ (l .inv .1 .marks)
-          (subst (λ b. getD (l .seen) b false ≡ false) (w .4 .ensures) (v .left))) (w .5 .came)))
+          (subst (λ b. getD (l .seen) b false ≡ false) (w .3 .ensures) (v .left))) (w .4 .came)))
           (λ w. free-turn (l .inv .1) _ (omega (arith, w .0 .left, m)) (w .1))
           (c .if1 .came),
     )
@@ -105,10 +106,8 @@ rows-good-spec =
     Inv-loop
     μ-loop
     loop-holds
-    mark-requires
-    length-requires
+    row-at-requires
     returns
-    instance-requires
     bucket-requires
     array-read-if3
     first-row-requires
