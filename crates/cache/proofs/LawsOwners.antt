@@ -104,7 +104,7 @@ marked seen b c h e = go (ℕ-discrete b c)
     go (no n) = getD-set-other seen c b true false n ∙ e
 
 -- .. and so one row more is marked, or is free.
-seen-taken : (owners : List ℕ) (seen : List Bool) (k : ℕ) → length seen ≡ 512 → Seen owners seen k →
+seen-taken : (owners : List ℕ) (seen : List Bool) (k : ℕ) → length seen ≡ 1024 → Seen owners seen k →
     Seen owners (set seen (bucketOf (instanceAt owners k)) true) (k + 1)
 seen-taken owners seen k n x l h t = go (decLt l k)
   where
@@ -129,7 +129,7 @@ seen-free owners seen k z x l h t = go (decLt l k)
 
 -- The rows before k are good, and their instances are marked.
 pub record SoFar (z : ℕ) (owners : List ℕ) (seen : List Bool) (k : ℕ) : Type 0 where
-  pub size : length seen ≡ 512
+  pub size : length seen ≡ 1024
   pub rows : Rows z owners k
   pub marks : Seen owners seen k
 

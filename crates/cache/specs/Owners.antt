@@ -30,9 +30,9 @@ pub record FirstRow (P : ℕ → Type 0) (n r : ℕ) : Type 0 where
   pub such : r < n → P r
   pub none-before : (l : ℕ) → l < r → ¬ P l
 
--- One of 512 places.
+-- One of 1024 places.
 abbrev pub bucketOf : ℕ → ℕ
-bucketOf i = (i % 512 + i / 512 % 512) % 512
+bucketOf i = (i % 1024 + i / 1024 % 1024) % 1024
 
 -- A test tells whether an owner table and a buffer of this length stand for a cache, whatever the buffer's bytes are.
 abbrev pub Judged : ℕ → List ℕ → ℕ → Bool → Type 0

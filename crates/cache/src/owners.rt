@@ -79,7 +79,7 @@ pub fn first_row(owners: &[u8], rows: usize, wanted: Wanted) -> usize
 fn bucket(instance: u64) -> usize
     ensures { λ r. ⌜ r ≡ bucketOf instance ⌝ }
 {
-    ((instance % 512 + instance / 512 % 512) % 512) as usize
+    ((instance % 1024 + instance / 1024 % 1024) % 1024) as usize
 }
 
 // Whether no taken row has a length above the slot's, and no instance has two of them. Only a row whose bucket was seen
@@ -88,7 +88,7 @@ pub fn rows_good(owners: &[u8], rows: usize, size: u64) -> bool
     requires { ⌜ rows * 24 ≤ length (now owners) ⌝ }
     ensures { λ r. ⌜ Tells (Rows size (now (owners .entry)) rows) r ⌝ }
 {
-    let mut seen = [false; 512];
+    let mut seen = [false; 1024];
     let mut row = 0;
     while row < rows {
         let this = row_at(owners, row);

@@ -32,9 +32,9 @@ type Numbers = (&'static str, fn(usize) -> Vec<u64>);
 const IN_A_ROW: Numbers = ("numbers in a row", |slots| (1..=slots as u64).collect());
 const ANY: Numbers = ("any numbers", words);
 
-/// Slots have as many bytes as the file has, or twice as many, in whole words.
+/// Slots have as many bytes as the file has, or twice as many, in whole lines of a processor's cache.
 fn slot_size(file: &[u8], twice: bool) -> usize {
-    (file.len() << u32::from(twice)).next_multiple_of(8)
+    (file.len() << u32::from(twice)).next_multiple_of(64)
 }
 
 /// A cache whose slots all hold the file, slot k by the instance of that place.

@@ -18,7 +18,7 @@ fn about() {
     println!("`inlined`: the same, inlined into the loop that times it. Capacities are reserved.");
     println!("Arrays have 1,000 numbers; reading one ends with the numbers in a vector on both sides.");
     println!(
-        "Caches are full. A slot has as many bytes as the file, in whole words, so that a put writes what memcpy does;"
+        "Caches are full. A slot has as many bytes as the file, in whole lines of 64 bytes, so that a put writes what memcpy does;"
     );
     println!("`memcpy and measure`: the file copied to the same place of another buffer, and tikomuci_measure;");
     println!("`constant`: tikomuci_constant of the slot's file. The profile is the kernel's only constant.");
