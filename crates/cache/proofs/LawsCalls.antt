@@ -5,7 +5,7 @@ use Prim.Native.Nat.{ℕ, _+_, _-_, _*_, _^_, _≤_, _<_}
 use native.Mathlib.Omega.{arith}
 use native.Mathlib.Decide.{decLe}
 use mathlib.Core.Option.{Option, none, some}
-use mathlib.Core.List.{List, _++_}
+use mathlib.Core.List.{List, [], _∷_, _++_}
 use lib.ListN.{length, replicate, length-replicate}
 use Rattle.exact.proofs.LawsChoice.{choose-yes, choose-no}
 use Rattle.encoding.specs.Out.{put}
@@ -88,7 +88,7 @@ unfolding dropIn
 drop-there n i s g r e = good-answer n s (dropIn i) g ∙ ap (orRefused refusals.notThere) e
 
 -- What is left after a refusal ..
-pub refused-left : (f : ℕ → Lent) (s : Lent) (r : Read ℕ) (c m a : ℕ) → r ≡ refused c m a → s ≡ afterwards f s r
+refused-left : (f : ℕ → Lent) (s : Lent) (r : Read ℕ) (c m a : ℕ) → r ≡ refused c m a → s ≡ afterwards f s r
 unfolding afterwards
 refused-left f s r c m a e = rw e
 
@@ -99,15 +99,26 @@ pub stored-left : (n k z : ℕ) (bs ws : List ℕ) (s : Lent) (r : Read ℕ) (b 
 unfolding afterwards stored
 stored-left n k z bs ws s r b o e d p q = rw (e, p, q, d)
 
--- A put that was refused, with what is there as it was ..
+module _ (answer : Lent → Read ℕ) (f : Lent → ℕ → Lent) where
+  -- A call that writes and was refused, with what is there as it was ..
+  stays : (s : Lent) (r : SlotRead) (c m a : ℕ) → slotRead r ≡ refused c m a → answer s ≡ refused c m a →
+      Writes answer (λ s. afterwards (f s) s (answer s)) s s r
+  stays s r c m a e q = record { answered = e ∙ sym q; left = refused-left (f s) s (answer s) c m a q }
+
+  -- .. for if it was refused, that is what it leaves.
+  unchanged : (s s' : Lent) (r : SlotRead) → Writes answer (λ s. afterwards (f s) s (answer s)) s s' r → (c m a : ℕ) →
+      slotRead r ≡ refused c m a → s' ≡ s
+  unchanged s s' r w c m a e = w .left ∙ sym (refused-left (f s) s (answer s) c m a (sym (w .answered) ∙ e))
+
+-- So with a put ..
 pub put-stays : (n i : ℕ) (file : List ℕ) (s : Lent) (r : SlotRead) (c m a : ℕ) → slotRead r ≡ refused c m a →
     putAnswer n i file s ≡ refused c m a → Writes (putAnswer n i file) (putLent n i file) s s r
-put-stays n i file s r c m a e q = record { answered = e ∙ sym q; left = refused-left _ s _ c m a q }
+put-stays n i file = stays (putAnswer n i file) (stored n file (1 ∷ i ∷ length file ∷ []))
 
--- .. and so with a drop.
+-- .. and with a drop.
 pub drop-stays : (n i : ℕ) (s : Lent) (r : SlotRead) (c m a : ℕ) → slotRead r ≡ refused c m a → dropAnswer n i s ≡ refused c m a →
     Writes (dropAnswer n i) (dropLent n i) s s r
-drop-stays n i s r c m a e q = record { answered = e ∙ sym q; left = refused-left _ s _ c m a q }
+drop-stays n i = stays (dropAnswer n i) (stored n [] (0 ∷ 0 ∷ 0 ∷ []))
 
 -- All of what a put promises ..
 pub put-post : (n i : ℕ) (file : List ℕ) (s s' : Lent) (r : SlotRead) → i < 2 ^ 64 →
@@ -115,7 +126,7 @@ pub put-post : (n i : ℕ) (file : List ℕ) (s s' : Lent) (r : SlotRead) → i 
 put-post n i file s s' r h w =
     record {
       writes = w;
-      kept = λ c m a e. w .left ∙ sym (refused-left _ s _ c m a (sym (w .answered) ∙ e));
+      kept = unchanged (putAnswer n i file) (stored n file (1 ∷ i ∷ length file ∷ [])) s s' r w;
       others = λ k e l b d. rw (w .left) (put-others n i k file s (sym (w .answered) ∙ e) l b d);
       means = λ c e. rw (w .left) (put-means n i file s c h e);
     }
@@ -125,7 +136,7 @@ pub drop-post : (n i : ℕ) (s s' : Lent) (r : SlotRead) → Writes (dropAnswer 
 drop-post n i s s' r w =
     record {
       writes = w;
-      kept = λ c m a e. w .left ∙ sym (refused-left _ s _ c m a (sym (w .answered) ∙ e));
+      kept = unchanged (dropAnswer n i) (stored n [] (0 ∷ 0 ∷ 0 ∷ [])) s s' r w;
       others = λ k e l b d. rw (w .left) (drop-others n i k s (sym (w .answered) ∙ e) l b d);
       cleared = λ k e. rw (w .left) (drop-cleared n i k s (sym (w .answered) ∙ e));
       means = λ c e. rw (w .left) (drop-means n i s c e);
