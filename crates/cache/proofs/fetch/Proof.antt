@@ -7,7 +7,7 @@ use borrow.Author.Tests.{not-true, not-false}
 use Rattle.format.specs.Read.{mapRead}
 use Rattle.container.specs.declared.ViewRead.the-variants as view
 use Rattle.container.specs.Views.{viewOf}
-use Rattle.cache.proofs.LawsJudged.{below}
+use Rattle.cache.proofs.LawsJudged.{below, slot-room}
 use Rattle.cache.proofs.LawsCalls.{bad-answer}
 use Rattle.cache.proofs.LawsFetch.{fetch-missing, file-inside, fetch-post, fetch-view, part-is, view-begins}
 use Rattle.cache.proofs.fetch.Statement.{statement}
@@ -86,7 +86,7 @@ add-end c =
     let g = l .before .judged .ensures (o .args .cache .now) refl .holds (not-false _ (l .if1 .left)) in
     let x = f .first-row .ensures in
     let h = below _ _ (x .inside) (w .if2 .left) in
-    omega (arith, ap (λ r. r .len) (c .row-at .ensures), file-inside _ _ _ (o .args .index) g _ x _ z h)
+    omega (arith, ap (λ r. r .len) (c .row-at .ensures), file-inside _ _ _ (o .args .index) g _ x _ z h, slot-room _ _ _ _ g z h)
 
 sub-constant : tie.Need-sub-constant
 sub-constant c = search needs
@@ -106,6 +106,7 @@ part-constant-end c =
     let h = below _ _ (x .inside) (w .if2 .left) in
     let e = ap (λ r. r .len) (c .row-at .ensures) in
     let q = file-inside _ _ _ (o .args .index) g _ x _ z h in
+    let room = slot-room _ _ _ _ g z h in
     search needs
 
 constant-requires : tie.Need-constant-requires
