@@ -7,13 +7,11 @@ use native.Mathlib.Omega.{arith}
 use native.Mathlib.Decide.{decLe}
 use mathlib.Core.List.{List}
 use lib.ListN.{length, getD}
-use Rattle.exact.specs.Choice.{choose}
 use Rattle.enums.specs.Refusals as refusals
 use Rattle.format.specs.Read.{Read, accepted, refused, mapRead}
-use Rattle.format.specs.Refusals.{Listed}
 use Rattle.format.specs.Decode.{decode}
 use Rattle.format.specs.Views.{andThen, constantsIn}
-use Rattle.format.proofs.Refused.{refused-some, decode-listed, row-listed}
+use Rattle.format.proofs.Refused.{decode-listed, row-listed}
 use Rattle.container.specs.Views.{viewOf}
 use Rattle.container.specs.declared.ViewRead.{ViewRead}
 use Rattle.cache.specs.Cache.{Slot, free, fileIn, slotOf, slotFor, orRefused, putIn, dropIn, fetchIn}
@@ -25,88 +23,62 @@ use Rattle.tikomuci.specs.declared.Answer.{Answer}
 use Rattle.tikomuci.specs.Views.{view, spanIn}
 use Rattle.tikomuci.specs.Caches.{slot, Changes, CachePut, CacheDropped, CacheFetched}
 use Rattle.tikomuci.proofs.LawsBoundary.{told}
-use Rattle.tikomuci.proofs.LawsTold.{size-refused}
+use Rattle.tikomuci.proofs.LawsTold.{Answered, an-answer, a-refusal, listed-answered, answered-choose, shown, size-told, size-refused}
 
--- What a call answers: if it is a refusal, its number is not 0.
-data Numbered {A : Type 0} : Read A → Type 0 where
-  an-answer : {v : A} → Numbered (accepted v)
-  a-number : (c : ℕ) {m a : ℕ} → 0 < c → Numbered (refused c m a)
-
--- A file's refusals are such ..
-listed-numbered : {A : Type 0} (x : Read A) → Listed x → Numbered x
-listed-numbered (accepted v) h = an-answer
-listed-numbered (refused c m a) h = a-number c (refused-some h refl)
-
--- .. and so are those of what goes on with what was read ..
-numbered-then : {A B : Type 0} {x : Read A} (f : A → Read B) → Numbered x → ((v : A) → Numbered (f v)) → Numbered (andThen x f)
+-- A refusal of what goes on with what was read has a number ..
+answered-then : {A B : Type 0} {x : Read A} (f : A → Read B) → Answered x → ((v : A) → Answered (f v)) → Answered (andThen x f)
 unfolding andThen
-numbered-then f (an-answer {v}) y = y v
-numbered-then f (a-number c p) y = a-number c p
+answered-then f (an-answer {v}) y = y v
+answered-then f (a-refusal c p) y = a-refusal c p
 
 -- .. of a function of it ..
-numbered-map : {A B : Type 0} {x : Read A} (f : A → B) → Numbered x → Numbered (mapRead f x)
+answered-map : {A B : Type 0} {x : Read A} (f : A → B) → Answered x → Answered (mapRead f x)
 unfolding mapRead
-numbered-map f an-answer = an-answer
-numbered-map f (a-number c p) = a-number c p
+answered-map f an-answer = an-answer
+answered-map f (a-refusal c p) = a-refusal c p
 
 -- .. of a slot that is looked for ..
-numbered-slot : (c : ℕ) → 0 < c → (o : Option ℕ) → Numbered (orRefused c o)
+answered-slot : (c : ℕ) → 0 < c → (o : Option ℕ) → Answered (orRefused c o)
 unfolding orRefused
-numbered-slot c p none = a-number c p
-numbered-slot c p (some k) = an-answer
-
--- .. of a file that has to fit ..
-numbered-fits : {A Q : Type 0} (d : Dec Q) {x y : Read A} → Numbered x → Numbered y → Numbered (choose d x y)
-unfolding choose
-numbered-fits (yes h) p q = p
-numbered-fits (no h) p q = q
+answered-slot c p none = a-refusal c p
+answered-slot c p (some k) = an-answer
 
 -- .. and of a cache that is judged first.
-numbered-cache : {A : Type 0} (o : Option (List Slot)) (f : List Slot → Read A) → ((c : List Slot) → Numbered (f c)) →
-    Numbered (ofCache o f)
+answered-cache : {A : Type 0} (o : Option (List Slot)) (f : List Slot → Read A) → ((c : List Slot) → Answered (f c)) →
+    Answered (ofCache o f)
 unfolding ofCache
-numbered-cache none f y = a-number refusals.unsound (omega arith)
-numbered-cache (some c) f y = y c
+answered-cache none f y = a-refusal refusals.unsound (omega arith)
+answered-cache (some c) f y = y c
 
 -- So those of all three calls: put ..
-put-numbered : (n i : ℕ) (file : List ℕ) (s : Lent) → Numbered (putAnswer n i file s)
+put-answered : (n i : ℕ) (file : List ℕ) (s : Lent) → Answered (putAnswer n i file s)
 unfolding putIn
-put-numbered n i file s =
-    numbered-cache (cacheOf n s) _
-    (λ c. numbered-then _ (listed-numbered (decode file) (decode-listed file))
-    (λ t. numbered-fits (decLe (length file) (slotSize n (s .buffer))) (numbered-slot refusals.noSlot (omega arith) (slotFor i c))
-    (a-number refusals.full (omega arith))))
+put-answered n i file s =
+    answered-cache (cacheOf n s) _
+    (λ c. answered-then _ (listed-answered (decode file) (decode-listed file))
+    (λ t. answered-choose (decLe (length file) (slotSize n (s .buffer))) (answered-slot refusals.noSlot (omega arith) (slotFor i c))
+    (a-refusal refusals.full (omega arith))))
 
 -- .. drop ..
-drop-numbered : (n i : ℕ) (s : Lent) → Numbered (dropAnswer n i s)
+drop-answered : (n i : ℕ) (s : Lent) → Answered (dropAnswer n i s)
 unfolding dropIn
-drop-numbered n i s = numbered-cache (cacheOf n s) _ (λ c. numbered-slot refusals.notThere (omega arith) (slotOf i c))
+drop-answered n i s = answered-cache (cacheOf n s) _ (λ c. answered-slot refusals.notThere (omega arith) (slotOf i c))
 
 -- .. and fetch.
-fetch-numbered : (n i k : ℕ) (s : Lent) → Numbered (fetchAnswer n i k s)
+fetch-answered : (n i k : ℕ) (s : Lent) → Answered (fetchAnswer n i k s)
 unfolding fetchIn
-fetch-numbered n i k s =
-    numbered-cache (cacheOf n s) _
-    (λ c. numbered-then _ (numbered-slot refusals.notThere (omega arith) (slotOf i c))
-    (λ j. numbered-map _ (listed-numbered _ (row-listed constantsIn (fileIn (getD c j free)) k))))
+fetch-answered n i k s =
+    answered-cache (cacheOf n s) _
+    (λ c. answered-then _ (answered-slot refusals.notThere (omega arith) (slotOf i c))
+    (λ j. answered-map _ (listed-answered _ (row-listed constantsIn (fileIn (getD c j free)) k))))
 
--- An answer f with refusal 0 shows, by g, what was accepted.
-shown : {A : Type 0} (f : Read A → Answer) (g : Answer → A) → ((v : A) → g (f (accepted v)) ≡ v) →
-    ((c m a : ℕ) → f (refused c m a) .refusal ≡ c) → (r : Answer) {x : Read A} → Numbered x → r ≡ f x → r .refusal ≡ 0 →
-    x ≡ accepted (g r)
-shown f g h k r an-answer e z = rw (e, h _)
-shown f g h k r (a-number c {m} {a} p) e z =
-    let q = ap (λ b. b .refusal) e in
-    let o = k c m a in
-    absurd (omega arith)
-
--- So a slot is shown.
-slot-shown : (x : SlotRead) {y : Read ℕ} {r : Answer} → Numbered y → r ≡ slot (slotRead x) → slotRead x ≡ y → r .refusal ≡ 0 →
+-- A slot is shown.
+slot-shown : (x : SlotRead) {y : Read ℕ} {r : Answer} → Answered y → r ≡ slot (slotRead x) → slotRead x ≡ y → r .refusal ≡ 0 →
     slotRead x ≡ accepted (r .first)
-slot-shown x {r = r} p e a = shown slot (λ b. b .first) (λ v. refl) (λ c m i. refl) r (subst Numbered (sym a) p) e
+slot-shown x {r = r} p e a = size-told r (subst Answered (sym a) p) e
 
 -- A call that writes, shown.
-changed : {n : ℕ} {answers : Lent → Read ℕ} {leaves : Lent → Lent} {s s' : Lent} (x : SlotRead) {r : Answer} → Numbered (answers s) →
+changed : {n : ℕ} {answers : Lent → Read ℕ} {leaves : Lent → Lent} {s s' : Lent} (x : SlotRead) {r : Answer} → Answered (answers s) →
     r ≡ slot (slotRead x) → Writes answers leaves s s' x → ((c m a : ℕ) → slotRead x ≡ refused c m a → s' ≡ s) →
     ((k : ℕ) → slotRead x ≡ accepted k → (l : ℕ) → l < n → ¬ (l ≡ k) → SlotKept n l s s') → Changes n answers leaves s s' r
 changed x {r} p e w kept others =
@@ -121,13 +93,13 @@ changed x {r} p e w kept others =
 pub cache-put : (n i : ℕ) (file : List ℕ) (s s' : Lent) (x : SlotRead) (r : Answer) → r ≡ slot (slotRead x) → PutPost n i file s s' x →
     CachePut n i file s s' r
 cache-put n i file s s' x r e p =
-    record { changes = changed x (put-numbered n i file s) e (p .writes) (p .kept) (p .others); means = p .means }
+    record { changes = changed x (put-answered n i file s) e (p .writes) (p .kept) (p .others); means = p .means }
 
 -- Dropping, shown.
 pub cache-dropped : (n i : ℕ) (s s' : Lent) (x : SlotRead) (r : Answer) → r ≡ slot (slotRead x) → DropPost n i s s' x →
     CacheDropped n i s s' r
 cache-dropped n i s s' x r e p =
-    let d = drop-numbered n i s in
+    let d = drop-answered n i s in
     record {
       changes = changed x d e (p .writes) (p .kept) (p .others);
       cleared = λ z. p .cleared (r .first) (slot-shown x d e (p .writes .answered) z);
@@ -138,10 +110,10 @@ cache-dropped n i s s' x r e p =
 pub cache-fetched : (n i k : ℕ) (s : Lent) (x : ViewRead) (r : Answer) → r ≡ view (viewOf x) → FetchPost n i k s x →
     CacheFetched n i k s r
 cache-fetched n i k s x r e p =
-    let d = numbered-map (inBuffer (slotSize n (s .buffer))) (fetch-numbered n i k s) in
+    let d = answered-map (inBuffer (slotSize n (s .buffer))) (fetch-answered n i k s) in
     record {
       answer = told view e (p .answer);
-      sound = λ z. p .sound (spanIn r) (shown view spanIn (λ v. refl) (λ c m a. refl) r (subst Numbered (sym (p .answer)) d) e z);
+      sound = λ z. p .sound (spanIn r) (shown view spanIn (λ v. refl) (λ c m a. refl) r (subst Answered (sym (p .answer)) d) e z);
     }
 
 -- A call that writes has one answer, and leaves one buffer and one owner table.

@@ -27,13 +27,34 @@ use Rattle.tikomuci.specs.Files.{needed, sizeIn}
 use Rattle.tikomuci.specs.Views.{view, spanIn}
 use Rattle.tikomuci.specs.Sheets.{size}
 
+-- What a call answers: if it is a refusal, its number is not 0.
+pub data Answered {A : Type 0} : Read A → Type 0 where
+  an-answer : {v : A} → Answered (accepted v)
+  a-refusal : (c : ℕ) {m a : ℕ} → 0 < c → Answered (refused c m a)
+
+-- A file's refusals are such, and so are those of two calls of which one is chosen.
+pub listed-answered : {A : Type 0} (x : Read A) → Listed x → Answered x
+listed-answered (accepted v) h = an-answer
+listed-answered (refused c m a) h = a-refusal c (refused-some h refl)
+
+pub answered-choose : {A Q : Type 0} (d : Dec Q) {x y : Read A} → Answered x → Answered y → Answered (choose d x y)
+unfolding choose
+answered-choose (yes h) p q = p
+answered-choose (no h) p q = q
+
+-- An answer f with refusal 0 shows, by g, what was accepted.
+pub shown : {A : Type 0} (f : Read A → Answer) (g : Answer → A) → ((v : A) → g (f (accepted v)) ≡ v) →
+    ((c m a : ℕ) → f (refused c m a) .refusal ≡ c) → (r : Answer) {x : Read A} → Answered x → r ≡ f x → r .refusal ≡ 0 →
+    x ≡ accepted (g r)
+shown f g h k r an-answer e z = rw (e, h _)
+shown f g h k r (a-refusal c {m} {a} p) e z =
+    let q = ap (λ b. b .refusal) e in
+    let o = k c m a in
+    absurd (omega arith)
+
 -- Measuring and reading ..
 pub need-told : (x : Read Need) → Listed x → (r : Answer) → r ≡ needed x → r .refusal ≡ 0 → x ≡ accepted (sizeIn r)
-need-told (accepted n) h r e z = ap (λ a. accepted (sizeIn a)) (sym e)
-need-told (refused c n i) h r e z =
-    let p : 0 < c = refused-some h refl in
-    let q = ap (λ a. a .refusal) e in
-    absurd (omega arith)
+need-told x h r = shown needed sizeIn (λ v. refl) (λ c m a. refl) r (listed-answered x h)
 
 pub need-refused : (x : Read Need) (r : Answer) → r ≡ needed x → 0 < r .refusal → (c : ℕ) × (n : ℕ) × (i : ℕ) × (x ≡ refused c n i)
 need-refused (accepted n) r e z = let q = ap (λ a. a .refusal) e in absurd (omega arith)
@@ -41,11 +62,7 @@ need-refused (refused c n i) r e z = (c, n, i, refl)
 
 -- .. views ..
 pub span-told : (x : Read Span) → Listed x → (r : Answer) → r ≡ view x → r .refusal ≡ 0 → x ≡ accepted (spanIn r)
-span-told (accepted s) h r e z = ap (λ a. accepted (spanIn a)) (sym e)
-span-told (refused c n i) h r e z =
-    let p : 0 < c = refused-some h refl in
-    let q = ap (λ a. a .refusal) e in
-    absurd (omega arith)
+span-told x h r = shown view spanIn (λ v. refl) (λ c m a. refl) r (listed-answered x h)
 
 -- .. and writing: which is an image or has a number, before it is held to the output and after that.
 data Numbered : Writing → Type 0 where
@@ -78,36 +95,26 @@ alone-numbered s =
     numbered-choose (decLe (length (wordsIn s)) mostWords) (imaged-numbered (blank (judgedBytes s))) (a-number refusals.limit (omega arith))
 
 -- An answer of a call that writes is a size, or has a number.
-data Sized : Read ℕ → Type 0 where
-  a-size : {n : ℕ} → Sized (accepted n)
-  no-size : (c k i : ℕ) → 0 < c → Sized (refused c k i)
-
-sized-choose : {Q : Type 0} (d : Dec Q) {x y : Read ℕ} → Sized x → Sized y → Sized (choose d x y)
-unfolding choose
-sized-choose (yes h) a b = a
-sized-choose (no h) a b = b
-
-room-sized : (n : ℕ) {w : Writing} → Numbered w → Sized (inRoom n w)
+room-answered : (n : ℕ) {w : Writing} → Numbered w → Answered (inRoom n w)
 unfolding inRoom
-room-sized n (an-image {bs}) = sized-choose (decLe (length bs) n) a-size (no-size refusals.full _ _ (omega arith))
-room-sized n (a-number c h) = no-size c _ _ h
+room-answered n (an-image {bs}) = answered-choose (decLe (length bs) n) an-answer (a-refusal refusals.full (omega arith))
+room-answered n (a-number c h) = a-refusal c h
 
-length-sized : {w : Writing} → Numbered w → Sized (lengthOf w)
+length-answered : {w : Writing} → Numbered w → Answered (lengthOf w)
 unfolding lengthOf
-length-sized (an-image {bs}) = a-size
-length-sized (a-number c h) = no-size c _ _ h
+length-answered (an-image {bs}) = an-answer
+length-answered (a-number c h) = a-refusal c h
 
-size-told : (r : Answer) {x : Read ℕ} → Sized x → r ≡ size x → r .refusal ≡ 0 → x ≡ accepted (r .first)
-size-told r a-size e z = ap (λ a. accepted (a .first)) (sym e)
-size-told r (no-size c k i h) e z = let q = ap (λ a. a .refusal) e in absurd (omega arith)
+pub size-told : (r : Answer) {x : Read ℕ} → Answered x → r ≡ size x → r .refusal ≡ 0 → x ≡ accepted (r .first)
+size-told r = shown size (λ b. b .first) (λ v. refl) (λ c m a. refl) r
 
 pub room-told : (s pool : List ℕ) (n : ℕ) (r : Answer) → r ≡ size (inRoom n (writing s pool)) → r .refusal ≡ 0 →
     inRoom n (writing s pool) ≡ accepted (r .first)
-room-told s pool n r e z = size-told r (room-sized n (writing-numbered s pool)) e z
+room-told s pool n r e z = size-told r (room-answered n (writing-numbered s pool)) e z
 
 pub length-told : (s : List ℕ) (r : Answer) → r ≡ size (lengthOf (writingAlone s)) → r .refusal ≡ 0 →
     lengthOf (writingAlone s) ≡ accepted (r .first)
-length-told s r e z = size-told r (length-sized (alone-numbered s)) e z
+length-told s r e z = size-told r (length-answered (alone-numbered s)) e z
 
 pub size-refused : (x : Read ℕ) (r : Answer) → r ≡ size x → 0 < r .refusal → (c : ℕ) × (n : ℕ) × (i : ℕ) × (x ≡ refused c n i)
 size-refused (accepted n) r e z = let q = ap (λ a. a .refusal) e in absurd (omega arith)
