@@ -1,6 +1,5 @@
 -- `judged` tells whether a buffer's length and an owner table stand for a cache. Assumes nothing.
 use native.Mathlib.Omega.{arith}
-use borrow.Author.Needs.{needs}
 use Rattle.cache.proofs.LawsJudged.{whole-size, judged-rows, judged-not, no-multiple}
 use Rattle.cache.proofs.judged.Statement.{statement}
 use Rattle.cache.proofs.judged.Tie as tie

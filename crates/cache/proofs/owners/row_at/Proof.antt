@@ -1,5 +1,5 @@
 -- `row_at` reads the three words of a row. Assumes nothing.
-use mathlib.Core.Path.{_≡_, sym, ap, _∙_}
+use mathlib.Core.Path.{_≡_, ap, _∙_}
 use Prim.Native.Nat.{ℕ, _+_, _*_, _-_, _≤_}
 use native.Mathlib.Nat.{add-zero}
 use native.Mathlib.Omega.{arith}
@@ -7,7 +7,6 @@ use mathlib.Core.List.{List}
 use lib.ListN.{length, take, drop, getD}
 use borrow.Author.Needs.{needs}
 use Rattle.sheet.specs.Store.{wordsIn}
-use Rattle.cache.specs.declared.owners.Row.{Row}
 use Rattle.cache.specs.Owners.{rowAt}
 use Rattle.cache.proofs.LawsTable.{row-word}
 use Rattle.cache.proofs.owners.row_at.Statement.{statement}
