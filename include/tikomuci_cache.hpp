@@ -5,8 +5,8 @@
 // `session_put` and the others are the calls over stores that a host lends. Nothing here throws, and only `make`
 // allocates.
 //
-// What it costs: a put judges the file and copies it, and a fetch judges the kept file, each time. Every call compares
-// each row of the owner table with the others.
+// What it costs: a put judges the file and copies it, and a fetch judges the kept file, each time. Every call judges
+// all rows of the owner table first.
 #ifndef TIKOMUCI_CACHE_HPP
 #define TIKOMUCI_CACHE_HPP
 
