@@ -1,49 +1,48 @@
 -- How a cache is judged, and how a slot is found by the rows: as the model has it. Assumes nothing.
-use mathlib.Core.Path.{_≡_, refl, sym, ap, subst, _∙_}
+use mathlib.Core.Path.{_≡_, sym, ap, subst, _∙_}
 use Prim.Native.Nat.{ℕ, _+_, _*_, _/_, _%_, _≤_, _<_}
 use native.Mathlib.Nat.{mul-comm, div-mul-le-self}
 use native.Mathlib.Omega.{arith}
 use native.Mathlib.Decide.{decLt}
-use mathlib.Core.Bool.{Bool, false}
 use mathlib.Core.Option.{none, some}
 use mathlib.Core.List.{List}
 use lib.ListN.{length, getD}
 use Rattle.exact.specs.Choice.{choose}
 use Rattle.exact.proofs.LawsChoice.{choose-yes, choose-no}
-use Rattle.encoding.specs.Out.{Tells}
 use Rattle.cache.specs.declared.owners.Wanted.the-variants as wanted
+use Rattle.cache.specs.declared.owners.HeldRow.{HeldRow}
+use Rattle.cache.specs.declared.owners.HeldRow.the-variants as held
 use Rattle.cache.specs.Cache.{Slot, free, Free, isFree, isHeldBy, lowest, slotOf, orElse}
 use Rattle.cache.specs.Lent.{Lent, markAt, slotSize, Rows, Good, slotAt, slotsUpTo}
-use Rattle.cache.specs.Owners.{Is, FirstRow, Judged, asSlot, SlotFor}
+use Rattle.cache.specs.Owners.{Is, FirstRow, HeldAmong, HeldIn, Judged, asSlot, SlotFor}
 use Rattle.cache.proofs.LawsLowest.{found, nowhere, lowest-is}
 use Rattle.cache.proofs.LawsSlots.{slot-inside, length-slots, slots-at}
 use Rattle.cache.proofs.LawsStored.{free-slot}
 use Rattle.cache.proofs.LawsFound.{held-of, of-held, of-free}
-use Rattle.cache.proofs.LawsOwners.{tells-no}
 
 -- The slots' size, by which a buffer's length is divided.
 pub whole-size : (len n z : ℕ) → z ≡ len / n → z * n ≤ len
 whole-size len n z e = rw e (div-mul-le-self len n)
 
--- A buffer and an owner table of the right lengths are good if the rows are.
-pub judged-rows : (n len z : ℕ) (owners : List ℕ) (t : Bool) → 0 < n → z ≡ len / n → z * n ≡ len → length owners % 24 ≡ 0 →
-    length owners / 24 ≡ n → Tells (Rows z owners n) t → Judged len owners n t
-judged-rows n len z owners t h d a b c x buffer e =
-    let q : z ≡ length buffer / n = d ∙ ap (λ m. m / n) (sym e) in
-    record {
-      holds = λ y. record {
+-- A buffer and an owner table of the right lengths are as good as the rows.
+pub judged-rows : (n len z i : ℕ) (owners : List ℕ) (r : HeldRow) → 0 < n → z ≡ len / n → z * n ≡ len → length owners % 24 ≡ 0 →
+    length owners / 24 ≡ n → HeldAmong z i owners n r → Judged len owners n i r
+judged-rows n len z i owners r h d a b c x buffer e = go r x
+  where
+    q : z ≡ length buffer / n
+    q = d ∙ ap (λ m. m / n) (sym e)
+
+    go : (r : HeldRow) → HeldAmong z i owners n r → HeldIn n i (record { buffer = buffer; owners = owners }) r
+    go held.Bad bad = λ g. bad (subst (λ m. Rows m owners n) (sym q) (g .rows))
+    go (held.At k) (rows, first) = (
+      record {
         slots = h;
         buffer = e ∙ sym a ∙ mul-comm z n ∙ ap (λ m. n * m) q;
         owners = omega arith;
-        rows = subst (λ m. Rows m owners n) q (x .holds y);
-      };
-      fails = λ y g. x .fails y (subst (λ m. Rows m owners n) (sym q) (g .rows));
-    }
-
--- A test that fails where no cache can be.
-pub judged-not : (n len : ℕ) (owners : List ℕ) → ((b : List ℕ) → length b ≡ len → ¬ Good n (record { buffer = b; owners = owners })) →
-    Judged len owners n false
-judged-not n len owners h b e = tells-no refl (h b e)
+        rows = subst (λ m. Rows m owners n) q rows;
+      },
+      first,
+    )
 
 -- A buffer that is no multiple.
 pub no-multiple : (n len z : ℕ) (owners b : List ℕ) → z ≡ len / n → ¬ (z * n ≡ len) → length b ≡ len →

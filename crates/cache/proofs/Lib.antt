@@ -1,5 +1,6 @@
 pub mod LawsLowest
 pub mod LawsOwners
+pub mod LawsNotes
 pub mod LawsTable
 pub mod LawsSlots
 pub mod LawsStored

@@ -8,8 +8,8 @@ ghost use Prim.Native.Nat.{_+_, _-_, _*_, _/_, _≤_};
 ghost use lib.ListN.{length, replicate};
 ghost use Rattle.encoding.specs.Out.{put};
 ghost use Rattle.decoder.specs.Views.{Accepted};
-ghost use Rattle.cache.specs.Lent.{Good};
-ghost use Rattle.cache.specs.Owners.{Judged, SlotFor};
+ghost use Rattle.cache.specs.declared.owners.HeldRow.the-variants as rows;
+ghost use Rattle.cache.specs.Owners.{HeldIn, Judged, SlotFrom};
 ghost use Rattle.cache.specs.Meaning.{putAnswer, putLent};
 ghost use Rattle.cache.specs.Calls.{callRefused, Writes, PutPost, FetchPost, DropPost};
 use container::View;
@@ -17,6 +17,7 @@ use container::ViewRead;
 use container::sections::Stopped;
 use enums::Refusal;
 use enums::Stage;
+use owners::HeldRow;
 use owners::Wanted;
 use payloads::FileRead;
 
@@ -47,34 +48,34 @@ fn slot_size(len: usize, slots: usize) -> usize
     len / slots
 }
 
-// Whether a buffer of so many bytes, in slots of `size`, and an owner table stand for a cache.
-fn judged(len: usize, size: usize, owners: &[u8], slots: usize) -> bool
+// Judges whether a buffer of so many bytes, in slots of `size`, and an owner table stand for a cache, and finds the row that
+// an instance has in it.
+fn judged(len: usize, size: usize, owners: &[u8], slots: usize, instance: u64) -> HeldRow
     requires { ⌜ size ≡ len / slots ⌝ }
-    ensures { λ r. ⌜ Judged len (now (owners .entry)) slots r ⌝ }
+    ensures { λ r. ⌜ Judged len (now (owners .entry)) slots instance r ⌝ }
 {
     if slots == 0 {
-        return false;
+        return HeldRow::Bad;
     }
     if size * slots != len {
-        return false;
+        return HeldRow::Bad;
     }
     if owners.len() % 24 != 0 {
-        return false;
+        return HeldRow::Bad;
     }
     if owners.len() / 24 != slots {
-        return false;
+        return HeldRow::Bad;
     }
-    owners::rows_good(owners, slots, size as u64)
+    owners::held_row(owners, slots, size as u64, instance)
 }
 
-// The slot that a file of this instance goes to: the one that it holds, else the lowest free one; else the number of slots.
-fn slot_for(owners: &[u8], slots: usize, instance: u64) -> usize
+// The slot that a file goes to: the one that its instance holds, else the lowest free one; else the number of slots.
+fn slot_for(owners: &[u8], slots: usize, held: usize) -> usize
     requires { ⌜ slots * 24 ≤ length (now owners) ⌝ }
-    ensures { λ r. ⌜ SlotFor slots instance (now (owners .entry)) r ⌝ }
+    ensures { λ r. ⌜ SlotFrom slots held (now (owners .entry)) r ⌝ }
 {
-    let slot = owners::first_row(owners, slots, Wanted::HeldBy(instance));
-    if slot < slots {
-        return slot;
+    if held < slots {
+        return held;
     }
     owners::first_row(owners, slots, Wanted::Free)
 }
@@ -95,15 +96,16 @@ fn put_accepted(
     slots: usize,
     size: usize,
     instance: u64,
+    held: usize,
     file: &[u8],
 ) -> SlotRead
-    requires { ⌜ Good slots (record { buffer = now cache; owners = now owners }) × Accepted (now file) × (size ≡ length (now cache) / slots) ⌝ }
+    requires { ⌜ HeldIn slots instance (record { buffer = now cache; owners = now owners }) (rows.At held) × Accepted (now file) × (size ≡ length (now cache) / slots) ⌝ }
     ensures { λ r. ⌜ Writes (putAnswer slots instance (now (file .entry))) (putLent slots instance (now (file .entry))) (record { buffer = now (cache .entry); owners = now (owners .entry) }) (record { buffer = now (cache .exit); owners = now (owners .exit) }) r ⌝ }
 {
     if size < file.len() {
         return SlotRead::Stop(stopped(Refusal::FULL));
     }
-    let slot = slot_for(owners, slots, instance);
+    let slot = slot_for(owners, slots, held);
     if slot == slots {
         return SlotRead::Stop(stopped(Refusal::NO_SLOT));
     }
@@ -123,12 +125,12 @@ pub fn put(
     ensures { λ r. ⌜ PutPost slots instance (now (file .entry)) (record { buffer = now (cache .entry); owners = now (owners .entry) }) (record { buffer = now (cache .exit); owners = now (owners .exit) }) r ⌝ }
 {
     let size = slot_size(cache.len(), slots);
-    if !judged(cache.len(), size, owners, slots) {
+    let HeldRow::At(held) = judged(cache.len(), size, owners, slots, instance) else {
         return SlotRead::Stop(stopped(Refusal::SHEET));
-    }
+    };
     match decoder::measure(file) {
         FileRead::Stop(x) => SlotRead::Stop(x),
-        FileRead::Got(_) => put_accepted(cache, owners, slots, size, instance, file),
+        FileRead::Got(_) => put_accepted(cache, owners, slots, size, instance, held, file),
     }
 }
 
@@ -138,10 +140,9 @@ pub fn fetch(cache: &[u8], owners: &[u8], slots: usize, instance: u64, index: u6
     ensures { λ r. ⌜ FetchPost slots instance index (record { buffer = now (cache .entry); owners = now (owners .entry) }) r ⌝ }
 {
     let size = slot_size(cache.len(), slots);
-    if !judged(cache.len(), size, owners, slots) {
+    let HeldRow::At(slot) = judged(cache.len(), size, owners, slots, instance) else {
         return ViewRead::Stop(stopped(Refusal::SHEET));
-    }
-    let slot = owners::first_row(owners, slots, Wanted::HeldBy(instance));
+    };
     if slot == slots {
         return ViewRead::Stop(stopped(Refusal::ABSENT));
     }
@@ -162,10 +163,9 @@ pub fn drop(cache: &mut [u8], owners: &mut [u8], slots: usize, instance: u64) ->
     ensures { λ r. ⌜ DropPost slots instance (record { buffer = now (cache .entry); owners = now (owners .entry) }) (record { buffer = now (cache .exit); owners = now (owners .exit) }) r ⌝ }
 {
     let size = slot_size(cache.len(), slots);
-    if !judged(cache.len(), size, owners, slots) {
+    let HeldRow::At(slot) = judged(cache.len(), size, owners, slots, instance) else {
         return SlotRead::Stop(stopped(Refusal::SHEET));
-    }
-    let slot = owners::first_row(owners, slots, Wanted::HeldBy(instance));
+    };
     if slot == slots {
         return SlotRead::Stop(stopped(Refusal::ABSENT));
     }

@@ -1,12 +1,14 @@
 // The owner table: a row of three words for each slot, its mark, its instance and the length of its file.
 ghost use Prim.Native.Nat.{_+_, _*_, _≤_, _<_};
-ghost use lib.ListN.{length};
+ghost use lib.ListN.{length, replicate};
 ghost use mathlib.Core.Path.{_≡_};
 ghost use mathlib.Core.List.{[], _∷_};
 ghost use Rattle.encoding.specs.Out.{Tells};
 ghost use Rattle.sheet.specs.Store.{putWords};
 ghost use Rattle.cache.specs.Lent.{Rows};
-ghost use Rattle.cache.specs.Owners.{rowAt, bucketOf, Is, FirstRow};
+ghost use Rattle.cache.specs.Owners.{rowAt, Is, FirstRow, HeldAmong};
+ghost use Rattle.cache.specs.declared.owners.Wanted.the-variants as wanted;
+ghost use Rattle.cache.specs.Notes.{bucketOf, Notes, NewRow, SoFar, Turn, Once};
 use sheet::put_word;
 use sheet::word_at;
 
@@ -21,6 +23,12 @@ pub struct Row {
 pub enum Wanted {
     Free,
     HeldBy(u64),
+}
+
+// The row that an instance has among good ones, or their number if it has none; or that they are not good.
+pub enum HeldRow {
+    Bad,
+    At(usize),
 }
 
 // Reads a row. Its bytes are lent by themselves, so that the compiler sees that its words are there.
@@ -56,7 +64,7 @@ fn is_wanted(owners: &[u8], row: usize, wanted: Wanted) -> bool
     let found = row_at(owners, row);
     match wanted {
         Wanted::Free => found.mark == 0,
-        Wanted::HeldBy(i) => found.mark != 0 && found.instance == i,
+        Wanted::HeldBy(i) => found.instance == i && found.mark != 0,
     }
 }
 
@@ -75,36 +83,98 @@ pub fn first_row(owners: &[u8], rows: usize, wanted: Wanted) -> usize
     row
 }
 
-// Where an instance is marked as seen. Numbers that follow each other, and addresses, fall apart.
+// Where the row of an instance is noted. Numbers that follow each other, and addresses, fall apart.
 fn bucket(instance: u64) -> usize
     ensures { λ r. ⌜ r ≡ bucketOf instance ⌝ }
 {
     ((instance % 1024 + instance / 1024 % 1024) % 1024) as usize
 }
 
-// Whether no taken row has a length above the slot's, and no instance has two of them. Only a row whose bucket was seen
-// before is compared with the rows before it.
-pub fn rows_good(owners: &[u8], rows: usize, size: u64) -> bool
-    requires { ⌜ rows * 24 ≤ length (now owners) ⌝ }
+// Whether a taken row has an instance that no taken row before it has; and it is noted for those behind it. A place below
+// 128 is empty, and a full one tells a row by its lower bits. A row whose first place is full is compared with the row that
+// is told there if its second place is empty, else with all before it; so is every row from 128 on, which no place tells.
+fn is_new(owners: &[u8], row: usize, instance: u64, notes: &mut [u8]) -> bool
+    requires { ⌜ (row * 24 ≤ length (now owners)) × Notes (now owners) (now notes) row ⌝ }
+    ensures { λ r. ⌜ NewRow (now (owners .entry)) row instance (now (notes .exit)) r ⌝ }
+{
+    let first = bucket(instance);
+    let seen = notes[first] as usize;
+    if seen < 128 {
+        notes[first] = (128 + row % 128) as u8;
+        return true;
+    }
+    if row < 128 {
+        let second = bucket(instance / 1048576);
+        if notes[second] < 128 {
+            notes[second] = (128 + row) as u8;
+            return !is_wanted(owners, seen - 128, Wanted::HeldBy(instance));
+        }
+    }
+    first_row(owners, row, Wanted::HeldBy(instance)) == row
+}
+
+// Whether a row is good, those before it being good and noted; then it is noted too. A taken one has no length above the
+// slot's, and an instance that no taken row before it has.
+fn row_good(owners: &[u8], row: usize, this: Row, size: u64, notes: &mut [u8]) -> bool
+    requires { ⌜ (row * 24 ≤ length (now owners)) × SoFar size (now owners) (now notes) row × (this ≡ rowAt (now owners) row) ⌝ }
+    ensures { λ r. ⌜ Turn size (now (owners .entry)) row (now (notes .exit)) r ⌝ }
+{
+    if this.mark == 0 {
+        return true;
+    }
+    if size < this.len {
+        return false;
+    }
+    is_new(owners, row, this.instance, notes)
+}
+
+// Whether the rows are good. A row that fits and whose first place is empty is, and is noted whether it is taken or not:
+// nearly all are such, and of those nothing else is asked.
+fn rows_good(owners: &[u8], rows: usize, size: u64, notes: &mut [u8]) -> bool
+    requires { ⌜ (rows * 24 ≤ length (now owners)) × (now notes ≡ replicate 1024 0) ⌝ }
     ensures { λ r. ⌜ Tells (Rows size (now (owners .entry)) rows) r ⌝ }
 {
-    let mut seen = [false; 1024];
     let mut row = 0;
     while row < rows {
         let this = row_at(owners, row);
-        if this.mark != 0 {
-            if size < this.len {
-                return false;
-            }
-            let at = bucket(this.instance);
-            if seen[at] {
-                if first_row(owners, row, Wanted::HeldBy(this.instance)) < row {
-                    return false;
-                }
-            }
-            seen[at] = true;
+        let first = bucket(this.instance);
+        if notes[first] < 128 && this.len <= size {
+            notes[first] = (128 + row % 128) as u8;
+        } else if !row_good(owners, row, this, size, notes) {
+            return false;
         }
         row += 1;
     }
     true
+}
+
+// The row of an instance among good ones. The one that the notes tell is looked at first, and is believed only if it says so
+// itself.
+fn noted_row(owners: &[u8], rows: usize, instance: u64, notes: &[u8]) -> usize
+    requires { ⌜ (rows * 24 ≤ length (now owners)) × (length (now notes) ≡ 1024) × Once (now owners) rows ⌝ }
+    ensures { λ r. ⌜ FirstRow (Is (wanted.HeldBy instance) (now (owners .entry))) rows r ⌝ }
+{
+    let first = bucket(instance);
+    let seen = notes[first] as usize;
+    if 128 <= seen {
+        let row = seen - 128;
+        if row < rows {
+            if is_wanted(owners, row, Wanted::HeldBy(instance)) {
+                return row;
+            }
+        }
+    }
+    first_row(owners, rows, Wanted::HeldBy(instance))
+}
+
+// Judges the rows, and finds the one that an instance has.
+pub fn held_row(owners: &[u8], rows: usize, size: u64, instance: u64) -> HeldRow
+    requires { ⌜ rows * 24 ≤ length (now owners) ⌝ }
+    ensures { λ r. ⌜ HeldAmong size instance (now (owners .entry)) rows r ⌝ }
+{
+    let mut notes = [0u8; 1024];
+    if !rows_good(owners, rows, size, &mut notes) {
+        return HeldRow::Bad;
+    }
+    HeldRow::At(noted_row(owners, rows, instance, &notes))
 }

@@ -2,7 +2,6 @@
 use mathlib.Core.Path.{refl, ap}
 use native.Mathlib.Omega.{arith}
 use borrow.Author.Needs.{needs}
-use borrow.Author.Tests.{not-true, not-false}
 use Rattle.decoder.proofs.LawsRowViews.{measured}
 use Rattle.cache.specs.declared.SlotRead.the-variants as slot
 use Rattle.cache.specs.Calls.{slotRead}
@@ -16,6 +15,12 @@ slot-size-requires c κs = search needs
 judged-requires : tie.Need-judged-requires
 judged-requires c κs = c .before .slot-size .ensures
 
+enum-known-held : tie.Need-enum-known-held
+enum-known-held c = search needs
+
+enum-told : tie.Need-enum-told
+enum-told c = search needs
+
 stopped-requires : tie.Need-stopped-requires
 stopped-requires c κs = search needs
 
@@ -24,11 +29,11 @@ same-length c = search needs
 
 returns : tie.Need-returns
 returns c =
-    let o = c .before .before .before .before .before .before .before .before in
-    let t = c .before .before .judged .ensures (o .args .cache .now) refl in
+    let j = c .before .before .before in
+    let o = j .before .before .before .before .before .before in
+    let b = rw (c .before .enum-told .given .1) at (j .judged .ensures (o .args .cache .now) refl) in
     put-post _ _ _ _ _ _ (omega (arith, o .good))
-    (put-stays _ _ _ _ _ _ _ _ (ap (λ x. slotRead (slot.Stop x)) (c .stopped .ensures))
-    (bad-answer _ _ _ (t .fails (not-true _ (c .before .if1 .taken)))))
+    (put-stays _ _ _ _ _ _ _ _ (ap (λ x. slotRead (slot.Stop x)) (c .stopped .ensures)) (bad-answer _ _ _ b))
 
 measure-requires : tie.Need-measure-requires
 measure-requires c κs = search needs
@@ -36,18 +41,16 @@ measure-requires c κs = search needs
 enum-known-x : tie.Need-enum-known-x
 enum-known-x c = search needs
 
-enum-told : tie.Need-enum-told
-enum-told c = search needs
+enum-told-2 : tie.Need-enum-told-2
+enum-told-2 c = search needs
 
 put-accepted-requires : tie.Need-put-accepted-requires
 put-accepted-requires c κs =
     let m = c .before .before .before .before in
-    let j = m .before .before in
-    let o = j .before .before .before .before .before .before in
-    let e = m .measure .ensures .answer in
-    let g = c .before .before .enum-told .given .1 in (
-      j .judged .ensures (o .args .cache .now) refl .holds (not-false _ (m .before .if1 .left)),
-      measured _ _ (rw g at e),
+    let j = m .before .before .before .before in
+    let o = j .before .before .before .before .before .before in (
+      rw (m .before .before .held .given .1) at (j .judged .ensures (o .args .cache .now) refl),
+      measured _ _ (rw (c .before .before .enum-told2 .given .1) at (m .measure .ensures .answer)),
       j .before .before .slot-size .ensures,
     )
 
@@ -57,11 +60,12 @@ same-length-2 c = search needs
 returns-2 : tie.Need-returns-2
 returns-2 c =
     let m = c .before .before .before in
-    let j = m .before .before in
+    let j = m .before .before .before .before in
     let o = j .before .before .before .before .before .before in
-    let g = j .judged .ensures (o .args .cache .now) refl .holds (not-false _ (m .before .if1 .left)) in
+    let g = rw (m .before .before .held .given .1) at (j .judged .ensures (o .args .cache .now) refl) in
     put-post _ _ _ _ _ _ (omega (arith, o .good))
-    (put-stays _ _ _ _ _ _ _ _ refl (put-refused _ _ _ _ g _ _ _ (measure-refused _ _ _ (c .before .x .given .1) (m .measure .ensures .answer))))
+    (put-stays _ _ _ _ _ _ _ _ refl
+    (put-refused _ _ _ _ (g .0) _ _ _ (measure-refused _ _ _ (c .before .x .given .1) (m .measure .ensures .answer))))
 
 same-length-3 : tie.Need-same-length-3
 same-length-3 c = search needs
@@ -72,7 +76,7 @@ same-length-4 c = search needs
 returns-3 : tie.Need-returns-3
 returns-3 c =
     let p = c .before .before .before .before in
-    let o = p .before .before .before .before .before .before .before .before .before .before .before .before .before in
+    let o = p .before .before .before .before .before .before .before .before .before .before .before .before .before .before .before in
     put-post _ _ _ _ _ _ (omega (arith, o .good)) (p .put-accepted .ensures)
 
 pub put-spec : {M : Type 1} → statement M
@@ -81,12 +85,14 @@ put-spec =
     (tie.spec
     slot-size-requires
     judged-requires
+    enum-known-held
+    enum-told
     stopped-requires
     same-length
     returns
     measure-requires
     enum-known-x
-    enum-told
+    enum-told-2
     put-accepted-requires
     same-length-2
     returns-2

@@ -1,10 +1,9 @@
 -- `is_wanted` tells whether a row is wanted. Assumes nothing.
 use mathlib.Core.Path.{sym, ap, _∙_}
-use mathlib.Core.Bool.{not}
 use native.Mathlib.Omega.{arith}
 use borrow.Author.Needs.{needs}
-use borrow.Author.Tests.{eq-eqb}
-use Rattle.cache.proofs.LawsOwners.{tells-no, tells-equal}
+use borrow.Author.Tests.{ne-eqb}
+use Rattle.cache.proofs.LawsOwners.{tells-no, tells-not, tells-equal}
 use Rattle.cache.proofs.owners.is_wanted.Statement.{statement}
 use Rattle.cache.proofs.owners.is_wanted.Tie as tie
 
@@ -24,18 +23,18 @@ returns c =
 
 returns-2 : tie.Need-returns-2
 returns-2 c =
-    let r = c .before .before .before .before .before .before .row-at .ensures in
-    let m = ap (λ r. r .mark) r in
-    let e = ap (λ r. r .instance) r in
+    let w = c .before .before .before .before .before .before .row-at in
+    let m = ap (λ r. r .mark) (w .ensures) in
+    let e = ap (λ r. r .instance) (w .ensures) in
     let t = c .before .if1 .taken in
     rw (c .before .before .before .before .wanted .given .1)
-    (tells-equal _ _ (λ q. (omega (arith, m), sym e ∙ q)) (λ q. e ∙ q .1))
+    (tells-not (tells-equal (w .result .mark) 0 (λ q. q) (λ q. q)) (λ z p. omega (arith, z, m, p .0)) (λ n. (omega (arith, n, m), sym e ∙ t)))
 
 returns-3 : tie.Need-returns-3
 returns-3 c =
-    let m = ap (λ r. r .mark) (c .before .before .before .before .before .row-at .ensures) in
+    let e = ap (λ r. r .instance) (c .before .before .before .before .before .row-at .ensures) in
     rw (c .before .before .before .wanted .given .1)
-    (tells-no (ap not (eq-eqb _ _ (c .if1 .left))) (λ p. omega (arith, p .0, c .if1 .left, m)))
+    (tells-no (ne-eqb _ _ (c .if1 .left)) (λ p. c .if1 .left (e ∙ p .1)))
 
 pub is-wanted-spec : {M : Type 1} → statement M
 is-wanted-spec = tie.close (tie.spec row-at-requires enum-told enum-known-wanted returns returns-2 returns-3)
