@@ -49,17 +49,21 @@ fn slot_size(random: &mut Random, files: &[Vec<u8>]) -> usize {
     }
 }
 
-/// Few, about half as many as there are slots, or more; numbers in a row or any. 0 and 2^64 - 1 are among them.
+/// Numbers in a row, numbers as addresses are, and such that share one or both of the places where the library notes them.
+const STEPS: [u64; 4] = [1, 4096, 1 << 20, 1 << 40];
+
+/// Few, about half as many as there are slots, or more; one step from another or any. 0 and 2^64 - 1 are among them.
 fn instances(random: &mut Random, slots: usize) -> Vec<u64> {
     let count = match random.below(4) {
         0 => 3,
         1 => slots / 2,
         _ => slots + 2 + random.below(slots as u64 / 4) as usize,
     };
-    let (mut next, in_a_row) = (random.number(), random.one_in(2));
+    let mut next = random.number();
+    let step = random.one_in(2).then(|| *any(random, &STEPS));
     let mut instances = BTreeSet::from([0, u64::MAX]);
     while instances.len() < count {
-        next = if in_a_row { next.wrapping_add(1) } else { random.word() };
+        next = step.map_or_else(|| random.word(), |step| next.wrapping_add(step));
         instances.insert(next);
     }
     instances.into_iter().collect()
