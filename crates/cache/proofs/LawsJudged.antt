@@ -14,7 +14,7 @@ use Rattle.cache.specs.declared.owners.HeldRow.{HeldRow}
 use Rattle.cache.specs.declared.owners.HeldRow.the-variants as held
 use Rattle.cache.specs.Cache.{Slot, free, Free, isFree, isHeldBy, lowest, slotOf, orElse}
 use Rattle.cache.specs.Lent.{Lent, markAt, slotSize, Rows, Good, slotAt, slotsUpTo}
-use Rattle.cache.specs.Owners.{Is, FirstRow, HeldAmong, HeldIn, Judged, asSlot, SlotFor}
+use Rattle.cache.specs.Owners.{Is, FirstRow, Held, HeldAmong, Judged, asSlot, SlotFor}
 use Rattle.cache.proofs.LawsLowest.{found, nowhere, lowest-is}
 use Rattle.cache.proofs.LawsSlots.{slot-inside, length-slots, slots-at}
 use Rattle.cache.proofs.LawsStored.{free-slot}
@@ -24,25 +24,24 @@ use Rattle.cache.proofs.LawsFound.{held-of, of-held, of-free}
 pub whole-size : (len n z : ℕ) → z ≡ len / n → z * n ≤ len
 whole-size len n z e = rw e (div-mul-le-self len n)
 
+-- What is said of an instance is the same where the rows have to be the same.
+held-same : {P Q : Type 0} (i n : ℕ) (owners : List ℕ) (r : HeldRow) → (P → Q) → (Q → P) → Held P i owners n r →
+    Held Q i owners n r
+held-same i n owners held.Bad to from bad = λ q. bad (from q)
+held-same i n owners (held.At k) to from (p, first) = (to p, first)
+
 -- A buffer and an owner table of the right lengths are as good as the rows.
 pub judged-rows : (n len z i : ℕ) (owners : List ℕ) (r : HeldRow) → 0 < n → z ≡ len / n → z * n ≡ len → length owners % 24 ≡ 0 →
     length owners / 24 ≡ n → HeldAmong z i owners n r → Judged len owners n i r
-judged-rows n len z i owners r h d a b c x buffer e = go r x
-  where
-    q : z ≡ length buffer / n
-    q = d ∙ ap (λ m. m / n) (sym e)
-
-    go : (r : HeldRow) → HeldAmong z i owners n r → HeldIn n i (record { buffer = buffer; owners = owners }) r
-    go held.Bad bad = λ g. bad (subst (λ m. Rows m owners n) (sym q) (g .rows))
-    go (held.At k) (rows, first) = (
-      record {
-        slots = h;
-        buffer = e ∙ sym a ∙ mul-comm z n ∙ ap (λ m. n * m) q;
-        owners = omega arith;
-        rows = subst (λ m. Rows m owners n) q rows;
-      },
-      first,
-    )
+judged-rows n len z i owners r h d a b c x buffer e =
+    let q : z ≡ length buffer / n = d ∙ ap (λ m. m / n) (sym e) in
+    held-same i n owners r
+    (λ rows. record {
+      slots = h;
+      buffer = e ∙ sym a ∙ mul-comm z n ∙ ap (λ m. n * m) q;
+      owners = omega arith;
+      rows = subst (λ m. Rows m owners n) q rows;
+    }) (λ g. subst (λ m. Rows m owners n) (sym q) (g .rows)) x
 
 -- A buffer that is no multiple.
 pub no-multiple : (n len z : ℕ) (owners b : List ℕ) → z ≡ len / n → ¬ (z * n ≡ len) → length b ≡ len →

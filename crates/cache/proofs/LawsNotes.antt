@@ -12,9 +12,9 @@ use lib.Seq.{getD-set-same, getD-set-other}
 use lib.Dec.{eqb}
 use Rattle.encoding.specs.Out.{Tells}
 use Rattle.cache.specs.declared.owners.Wanted.the-variants as wanted
-use Rattle.cache.specs.Lent.{instanceAt, lengthAt, markAt, Taken, Rows}
+use Rattle.cache.specs.Lent.{instanceAt, lengthAt, markAt, Taken, Rows, Once}
 use Rattle.cache.specs.Owners.{Is, FirstRow}
-use Rattle.cache.specs.Notes.{bucketOf, secondOf, Noted, Notes, NewRow, SoFar, Turn, Once}
+use Rattle.cache.specs.Notes.{bucketOf, secondOf, Noted, Notes, NewRow, SoFar, Turn}
 use Rattle.cache.proofs.LawsOwners.{tells-equal, first-here, rows-free, rows-taken, not-fitting}
 
 module _ (notes : List ℕ) (c v : ℕ) (h : c < length notes) (e : getD notes c 0 < 128) where

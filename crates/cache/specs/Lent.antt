@@ -35,11 +35,15 @@ slotSize n buffer = length buffer / n
 abbrev pub slotBytes : ℕ → List ℕ → ℕ → List ℕ
 slotBytes n buffer k = take (slotSize n buffer) (drop (k * slotSize n buffer) buffer)
 
+-- No instance has two taken rows among the first m.
+abbrev pub Once : List ℕ → ℕ → Type 0
+Once owners m = (k l : ℕ) → k < l → l < m → Taken owners k → Taken owners l → ¬ (instanceAt owners k ≡ instanceAt owners l)
+
 -- The first m rows of an owner table, for slots of z bytes: no taken row has a length above the slot's, and no instance has
--- two taken rows.
+-- two.
 pub record Rows (z : ℕ) (owners : List ℕ) (m : ℕ) : Type 0 where
   pub fits : (k : ℕ) → k < m → Taken owners k → lengthAt owners k ≤ z
-  pub once : (k l : ℕ) → k < l → l < m → Taken owners k → Taken owners l → ¬ (instanceAt owners k ≡ instanceAt owners l)
+  pub once : Once owners m
 
 -- The buffer is a multiple of the number of slots, the owner table has as many rows, and these are as they should be. What
 -- stands in a free row's other words does not count.

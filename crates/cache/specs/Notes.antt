@@ -29,7 +29,7 @@ pub record Notes (owners notes : List ℕ) (k : ℕ) : Type 0 where
   pub before : (j : ℕ) → j < 1024 → getD notes j 0 < 128 + k
   pub each : (l : ℕ) → l < k → Taken owners l → Noted notes (instanceAt owners l) l
 
--- A test tells whether no row before k is of instance i; and if row k is, it is noted too.
+-- A test tells whether no taken row before k is of instance i; and if row k is, it is noted too.
 pub record NewRow (owners : List ℕ) (k i : ℕ) (notes : List ℕ) (t : Bool) : Type 0 where
   pub told : Tells ((l : ℕ) → l < k → ¬ Is (wanted.HeldBy i) owners l) t
   pub after : instanceAt owners k ≡ i → Notes owners notes (k + 1)
@@ -43,7 +43,3 @@ pub record SoFar (z : ℕ) (owners notes : List ℕ) (k : ℕ) : Type 0 where
 pub record Turn (z : ℕ) (owners : List ℕ) (k : ℕ) (notes : List ℕ) (t : Bool) : Type 0 where
   pub good : t ≡ true → SoFar z owners notes (k + 1)
   pub bad : t ≡ false → ¬ Rows z owners (k + 1)
-
--- No instance has two of the first m rows.
-abbrev pub Once : List ℕ → ℕ → Type 0
-Once owners m = (k l : ℕ) → k < l → l < m → Taken owners k → Taken owners l → ¬ (instanceAt owners k ≡ instanceAt owners l)

@@ -30,17 +30,20 @@ pub record FirstRow (P : ℕ → Type 0) (n r : ℕ) : Type 0 where
   pub such : r < n → P r
   pub none-before : (l : ℕ) → l < r → ¬ P l
 
--- What n rows, for slots of z bytes, say of instance i: they are not good, or it has its row.
+-- What n rows say of instance i, where they have to be such: they are not, or this is its row.
+abbrev pub Held : Type 0 → ℕ → List ℕ → ℕ → HeldRow → Type 0
+Held P i owners n held.Bad = ¬ P
+Held P i owners n (held.At r) = P × FirstRow (Is (wanted.HeldBy i) owners) n r
+
+-- Rows have to be good for slots of z bytes ..
 abbrev pub HeldAmong : ℕ → ℕ → List ℕ → ℕ → HeldRow → Type 0
-HeldAmong z i owners n held.Bad = ¬ Rows z owners n
-HeldAmong z i owners n (held.At r) = Rows z owners n × FirstRow (Is (wanted.HeldBy i) owners) n r
+HeldAmong z i owners n r = Held (Rows z owners n) i owners n r
 
--- What a cache says of it.
+-- .. and a buffer and an owner table for n slots.
 abbrev pub HeldIn : ℕ → ℕ → Lent → HeldRow → Type 0
-HeldIn n i s held.Bad = ¬ Good n s
-HeldIn n i s (held.At r) = Good n s × FirstRow (Is (wanted.HeldBy i) (s .owners)) n r
+HeldIn n i s r = Held (Good n s) i (s .owners) n r
 
--- What an owner table and a buffer of this length say of it, whatever the buffer's bytes are.
+-- What an owner table and a buffer of this length say of an instance, whatever the buffer's bytes are.
 abbrev pub Judged : ℕ → List ℕ → ℕ → ℕ → HeldRow → Type 0
 Judged len owners n i r = (b : List ℕ) → length b ≡ len → HeldIn n i (record { buffer = b; owners = owners }) r
 

@@ -5,10 +5,10 @@ ghost use mathlib.Core.Path.{_≡_};
 ghost use mathlib.Core.List.{[], _∷_};
 ghost use Rattle.encoding.specs.Out.{Tells};
 ghost use Rattle.sheet.specs.Store.{putWords};
-ghost use Rattle.cache.specs.Lent.{Rows};
+ghost use Rattle.cache.specs.Lent.{Rows, Once};
 ghost use Rattle.cache.specs.Owners.{rowAt, Is, FirstRow, HeldAmong};
 ghost use Rattle.cache.specs.declared.owners.Wanted.the-variants as wanted;
-ghost use Rattle.cache.specs.Notes.{bucketOf, Notes, NewRow, SoFar, Turn, Once};
+ghost use Rattle.cache.specs.Notes.{bucketOf, Notes, NewRow, SoFar, Turn};
 use sheet::put_word;
 use sheet::word_at;
 
