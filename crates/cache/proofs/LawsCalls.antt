@@ -27,13 +27,13 @@ use Rattle.payloads.specs.Whole.{fileRead, needOf}
 use Rattle.decoder.specs.Views.{Accepted}
 use Rattle.cache.specs.declared.SlotRead.{SlotRead}
 use Rattle.cache.specs.declared.SlotRead.the-variants as slot
-use Rattle.cache.specs.Cache.{Slot, slotOf, slotFor, orRefused, putIn, dropIn}
-use Rattle.cache.specs.Lent.{Lent, slotSize, Good, slotAt, slotsUpTo}
-use Rattle.cache.specs.Meaning.{cacheOf, ofCache, putAnswer, dropAnswer, stored, afterwards, putLent, dropLent}
-use Rattle.cache.specs.Owners.{asSlot}
+use Rattle.slots.specs.Cache.{Slot, slotOf, slotFor, orRefused, putIn, dropIn}
+use Rattle.slots.specs.Lent.{Lent, slotSize, Good, slotAt, slotsUpTo}
+use Rattle.slots.specs.Meaning.{cacheOf, ofCache, putAnswer, dropAnswer, stored, afterwards, putLent, dropLent}
+use Rattle.cache.specs.Judged.{asSlot}
 use Rattle.cache.specs.Calls.{slotRead, Writes, PutPost, DropPost, FetchPost}
-use Rattle.cache.proofs.LawsStored.{good-cache, bad-cache}
-use Rattle.cache.proofs.LawsMeaning.{put-means, drop-means, put-others, drop-others, drop-cleared}
+use Rattle.slots.proofs.LawsStored.{good-cache, bad-cache}
+use Rattle.slots.proofs.LawsMeaning.{put-means, drop-means, put-others, drop-others, drop-cleared}
 
 module _ {A : Type 0} (n : ℕ) (s : Lent) (f : List Slot → Read A) where
   -- Without a cache the answer is 12 ..

@@ -9,16 +9,16 @@ use mathlib.Core.List.{List}
 use lib.ListN.{length, getD}
 use Rattle.exact.specs.Choice.{choose}
 use Rattle.exact.proofs.LawsChoice.{choose-yes, choose-no}
-use Rattle.cache.specs.declared.owners.Wanted.the-variants as wanted
-use Rattle.cache.specs.declared.owners.HeldRow.{HeldRow}
-use Rattle.cache.specs.declared.owners.HeldRow.the-variants as held
-use Rattle.cache.specs.Cache.{Slot, free, Free, isFree, isHeldBy, lowest, slotOf, orElse}
-use Rattle.cache.specs.Lent.{Lent, markAt, slotSize, Rows, Good, slotAt, slotsUpTo}
-use Rattle.cache.specs.Owners.{Is, FirstRow, Held, HeldAmong, Judged, asSlot, SlotFor}
-use Rattle.cache.proofs.LawsLowest.{found, nowhere, lowest-is}
-use Rattle.cache.proofs.LawsSlots.{slot-inside, length-slots, slots-at}
-use Rattle.cache.proofs.LawsStored.{free-slot}
-use Rattle.cache.proofs.LawsFound.{held-of, of-held, of-free}
+use Rattle.owners.specs.declared.HeldRow.{HeldRow}
+use Rattle.owners.specs.declared.HeldRow.the-variants as held
+use Rattle.slots.specs.Cache.{Slot, free, Free, isFree, isHeldBy, lowest, slotOf, orElse}
+use Rattle.slots.specs.Lent.{Lent, markAt, slotSize, Rows, Good, slotAt, slotsUpTo}
+use Rattle.owners.specs.Owners.{rowsIn, FreeRow, RowOf, FirstRow, Held, HeldAmong}
+use Rattle.cache.specs.Judged.{Judged, asSlot, SlotFor}
+use Rattle.slots.proofs.LawsLowest.{found, nowhere, lowest-is}
+use Rattle.slots.proofs.LawsSlots.{slot-inside, length-slots, slots-at}
+use Rattle.slots.proofs.LawsStored.{free-slot}
+use Rattle.slots.proofs.LawsFound.{held-of, of-held, of-free}
 
 -- The slots' size, by which a buffer's length is divided.
 pub whole-size : (len n z : ℕ) → z ≡ len / n → z * n ≤ len
@@ -32,16 +32,17 @@ held-same i n owners (held.At k) to from (p, first) = (to p, first)
 
 -- A buffer and an owner table of the right lengths are as good as the rows.
 pub judged-rows : (n len z i : ℕ) (owners : List ℕ) (r : HeldRow) → 0 < n → z ≡ len / n → z * n ≡ len → length owners % 24 ≡ 0 →
-    length owners / 24 ≡ n → HeldAmong z i owners n r → Judged len owners n i r
+    rowsIn owners ≡ n → HeldAmong z i owners (rowsIn owners) r → Judged len owners n i r
 judged-rows n len z i owners r h d a b c x buffer e =
     let q : z ≡ length buffer / n = d ∙ ap (λ m. m / n) (sym e) in
+    let all : HeldAmong z i owners n r = subst (λ m. HeldAmong z i owners m r) c x in
     held-same i n owners r
     (λ rows. record {
       slots = h;
       buffer = e ∙ sym a ∙ mul-comm z n ∙ ap (λ m. n * m) q;
       owners = omega arith;
       rows = subst (λ m. Rows m owners n) q rows;
-    }) (λ g. subst (λ m. Rows m owners n) (sym q) (g .rows)) x
+    }) (λ g. subst (λ m. Rows m owners n) (sym q) (g .rows)) all
 
 -- A buffer that is no multiple.
 pub no-multiple : (n len z : ℕ) (owners b : List ℕ) → z ≡ len / n → ¬ (z * n ≡ len) → length b ≡ len →
@@ -90,14 +91,14 @@ module _ (n : ℕ) (s : Lent) (r : ℕ) where
   slots = slotsUpTo n (slotAt n s)
 
   -- So with the slot that an instance holds ..
-  pub slot-of-row : (i : ℕ) → FirstRow (Is (wanted.HeldBy i) (s .owners)) n r → slotOf i slots ≡ asSlot n r
+  pub slot-of-row : (i : ℕ) → FirstRow (RowOf i (s .owners)) n r → slotOf i slots ≡ asSlot n r
   slot-of-row i x =
-      lowest-row (isHeldBy i) n (slotAt n s) (Is (wanted.HeldBy i) (s .owners)) r (of-held n s i) (λ k h q. held-of n s i k h (q .0) (q .1)) x
+      lowest-row (isHeldBy i) n (slotAt n s) (RowOf i (s .owners)) r (of-held n s i) (λ k h q. held-of n s i k h (q .0) (q .1)) x
 
   -- .. and the one that is free.
-  free-of-row : FirstRow (Is wanted.Free (s .owners)) n r → lowest isFree slots ≡ asSlot n r
+  free-of-row : FirstRow (FreeRow (s .owners)) n r → lowest isFree slots ≡ asSlot n r
   free-of-row x =
-      lowest-row isFree n (slotAt n s) (Is wanted.Free (s .owners)) r (λ k h p. unmarked k (of-free n s k h p)) (λ k h e. is-free k h e) x
+      lowest-row isFree n (slotAt n s) (FreeRow (s .owners)) r (λ k h p. unmarked k (of-free n s k h p)) (λ k h e. is-free k h e) x
     where
       unmarked : (k : ℕ) → ¬ (0 < markAt (s .owners) k) → markAt (s .owners) k ≡ 0
       unmarked k h = omega arith
@@ -106,7 +107,7 @@ module _ (n : ℕ) (s : Lent) (r : ℕ) where
       is-free k h e = subst Free (sym (slots-at n (slotAt n s) k free h ∙ free-slot n s k (omega arith))) tt
 
 -- The slot that a file goes to: its instance's own ..
-pub for-own : (n i : ℕ) (owners : List ℕ) (r : ℕ) → FirstRow (Is (wanted.HeldBy i) owners) n r → r < n → SlotFor n i owners r
+pub for-own : (n i : ℕ) (owners : List ℕ) (r : ℕ) → FirstRow (RowOf i owners) n r → r < n → SlotFor n i owners r
 unfolding orElse
 for-own n i owners r x h =
     record {
@@ -115,13 +116,14 @@ for-own n i owners r x h =
     }
 
 -- .. else the lowest free one.
-pub for-free : (n i : ℕ) (owners : List ℕ) (r q : ℕ) → FirstRow (Is (wanted.HeldBy i) owners) n r → n ≤ r →
-    FirstRow (Is wanted.Free owners) n q → SlotFor n i owners q
+pub for-free : (n i : ℕ) (owners : List ℕ) (r q : ℕ) → FirstRow (RowOf i owners) n r → n ≤ r →
+    FirstRow (FreeRow owners) (rowsIn owners) q → rowsIn owners ≡ n → SlotFor n i owners q
 unfolding orElse
-for-free n i owners r q x h y =
+for-free n i owners r q x h y e =
+    let free-row : FirstRow (FreeRow owners) n q = subst (λ m. FirstRow (FreeRow owners) m q) e y in
     record {
-      inside = y .inside;
+      inside = free-row .inside;
       slot = λ b.
           let s : Lent = record { buffer = b; owners = owners } in
-          rw (slot-of-row n s r i x ∙ as-none n r h) (free-of-row n s q y);
+          rw (slot-of-row n s r i x ∙ as-none n r h) (free-of-row n s q free-row);
     }

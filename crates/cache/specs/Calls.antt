@@ -1,9 +1,9 @@
 -- What the calls promise of the buffer and the owner table s, which they leave as s' (document 02, 8/14).
 use mathlib.Core.Path.{_≡_}
-use Prim.Native.Nat.{ℕ, _<_}
+use Prim.Native.Nat.{ℕ, _+_, _<_}
 use mathlib.Core.Option.{some}
 use mathlib.Core.List.{List, []}
-use lib.ListN.{take, drop, getD, replicate}
+use lib.ListN.{length, take, drop, getD}
 use Rattle.enums.specs.Container.{constantId}
 use Rattle.format.specs.Read.{Read, accepted, refused, mapRead}
 use Rattle.format.specs.Views.{Span, constantsIn, Viewed}
@@ -13,9 +13,9 @@ use Rattle.container.specs.declared.sections.Stopped.{Stopped}
 use Rattle.container.specs.Views.{viewOf}
 use Rattle.cache.specs.declared.SlotRead.{SlotRead}
 use Rattle.cache.specs.declared.SlotRead.the-variants as slot
-use Rattle.cache.specs.Cache.{Slot, held, InSlot, putAfter, dropAfter}
-use Rattle.cache.specs.Lent.{Lent, markAt, instanceAt, lengthAt, slotSize, slotBytes}
-use Rattle.cache.specs.Meaning.{cacheOf, putAnswer, fetchAnswer, dropAnswer, inBuffer, putLent, dropLent}
+use Rattle.slots.specs.Cache.{Slot, held, InSlot, putAfter, dropAfter}
+use Rattle.slots.specs.Lent.{Lent, slotSize, SlotKept, SlotCleared}
+use Rattle.slots.specs.Meaning.{cacheOf, putAnswer, fetchAnswer, dropAnswer, inBuffer, putLent, dropLent}
 
 abbrev pub slotRead : SlotRead → Read ℕ
 slotRead (slot.Got k) = accepted k
@@ -25,19 +25,14 @@ slotRead (slot.Stop x) = refused (x .no) (x .stage) (x .at)
 abbrev pub callRefused : ℕ → Stopped
 callRefused n = record { no = n; stage = refusals.atCall; at = 0 }
 
--- Slot l and its row are as they were.
-pub record SlotKept (n l : ℕ) (s s' : Lent) : Type 0 where
-  pub bytes : slotBytes n (s' .buffer) l ≡ slotBytes n (s .buffer) l
-  pub mark : markAt (s' .owners) l ≡ markAt (s .owners) l
-  pub instance : instanceAt (s' .owners) l ≡ instanceAt (s .owners) l
-  pub size : lengthAt (s' .owners) l ≡ lengthAt (s .owners) l
+-- The slot that an instance holds, as a drop answers it, of an owner table and a buffer of this length, whatever its bytes are.
+abbrev pub OwnSlot : ℕ → List ℕ → ℕ → ℕ → SlotRead → Type 0
+OwnSlot len owners n i r =
+    (b : List ℕ) → length b ≡ len → slotRead r ≡ dropAnswer n i (record { buffer = b; owners = owners })
 
--- Slot l and its row are cleared.
-pub record SlotCleared (n l : ℕ) (s : Lent) : Type 0 where
-  pub bytes : slotBytes n (s .buffer) l ≡ replicate (slotSize n (s .buffer)) 0
-  pub mark : markAt (s .owners) l ≡ 0
-  pub instance : instanceAt (s .owners) l ≡ 0
-  pub size : lengthAt (s .owners) l ≡ 0
+-- A place in bytes that begin here.
+abbrev pub placedAt : ℕ → Span → Span
+placedAt start p = record { offset = start + p .offset; size = p .size }
 
 -- A call that writes: what it answers, and what it leaves.
 pub record Writes (answer : Lent → Read ℕ) (leaves : Lent → Lent) (s s' : Lent) (r : SlotRead) : Type 0 where

@@ -1,8 +1,2 @@
-pub mod Cache
-pub mod Lent
-pub mod Judge
-pub mod Owners
-pub mod Notes
-pub mod Meaning
+pub mod Judged
 pub mod Calls
-pub mod History

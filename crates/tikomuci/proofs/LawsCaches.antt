@@ -14,10 +14,10 @@ use Rattle.format.specs.Views.{andThen, constantsIn}
 use Rattle.format.proofs.Refused.{decode-listed, row-listed}
 use Rattle.container.specs.Views.{viewOf}
 use Rattle.container.specs.declared.ViewRead.{ViewRead}
-use Rattle.cache.specs.Cache.{Slot, free, fileIn, slotOf, slotFor, orRefused, putIn, dropIn, fetchIn}
-use Rattle.cache.specs.Lent.{Lent, slotSize}
-use Rattle.cache.specs.Meaning.{cacheOf, ofCache, putAnswer, fetchAnswer, dropAnswer, inBuffer}
-use Rattle.cache.specs.Calls.{slotRead, SlotKept, Writes, PutPost, DropPost, FetchPost}
+use Rattle.slots.specs.Cache.{Slot, free, fileIn, slotOf, slotFor, orRefused, putIn, dropIn, fetchIn}
+use Rattle.slots.specs.Lent.{Lent, slotSize, SlotKept}
+use Rattle.slots.specs.Meaning.{cacheOf, ofCache, putAnswer, fetchAnswer, dropAnswer, inBuffer}
+use Rattle.cache.specs.Calls.{slotRead, Writes, PutPost, DropPost, FetchPost}
 use Rattle.cache.specs.declared.SlotRead.{SlotRead}
 use Rattle.tikomuci.specs.declared.Answer.{Answer}
 use Rattle.tikomuci.specs.Views.{view, spanIn}

@@ -5,10 +5,10 @@ use Prim.Native.Nat.{ℕ, _<_}
 use mathlib.Core.Option.{some}
 use mathlib.Core.List.{List}
 use Rattle.format.specs.Read.{Read, mapRead}
-use Rattle.cache.specs.Cache.{Slot, putAfter, dropAfter}
-use Rattle.cache.specs.Lent.{Lent, slotSize}
-use Rattle.cache.specs.Meaning.{cacheOf, putAnswer, fetchAnswer, dropAnswer, inBuffer, putLent, dropLent}
-use Rattle.cache.specs.Calls.{SlotKept, SlotCleared, Fetched}
+use Rattle.slots.specs.Cache.{Slot, putAfter, dropAfter}
+use Rattle.slots.specs.Lent.{Lent, slotSize, SlotKept, SlotCleared}
+use Rattle.slots.specs.Meaning.{cacheOf, putAnswer, fetchAnswer, dropAnswer, inBuffer, putLent, dropLent}
+use Rattle.cache.specs.Calls.{Fetched}
 use Rattle.tikomuci.specs.declared.Answer.{Answer}
 use Rattle.tikomuci.specs.Views.{view, spanIn}
 use Rattle.tikomuci.specs.Sheets.{size}

@@ -1,5 +1,6 @@
 -- `judged` judges a buffer's length and an owner table, and finds the row of an instance. Assumes nothing.
 use native.Mathlib.Omega.{arith}
+use borrow.Author.Needs.{needs}
 use Rattle.cache.proofs.LawsJudged.{whole-size, judged-rows, no-multiple}
 use Rattle.cache.proofs.judged.Statement.{statement}
 use Rattle.cache.proofs.judged.Tie as tie
@@ -20,7 +21,7 @@ returns-4 : tie.Need-returns-4
 returns-4 c = λ b e g. c .if4 .taken (omega (arith, g .owners))
 
 held-row-requires : tie.Need-held-row-requires
-held-row-requires c κs = omega (arith, c .if4 .left, c .before .if3 .left)
+held-row-requires c κs = search needs
 
 returns-5 : tie.Need-returns-5
 returns-5 c =

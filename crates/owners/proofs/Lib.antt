@@ -1,0 +1,2 @@
+pub mod LawsOwners
+pub mod LawsNotes

@@ -1,0 +1,14 @@
+pub mod LawsLowest
+pub mod LawsTable
+pub mod LawsSlots
+pub mod LawsStored
+pub mod LawsFound
+pub mod LawsMeaning
+pub mod Others
+pub mod Empty
+pub mod Examples
+pub mod LawsCache
+pub mod LawsHistory
+pub mod FetchOwn
+pub mod Apart
+pub mod NoSlot
