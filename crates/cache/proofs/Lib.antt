@@ -1,3 +1,4 @@
 pub mod LawsJudged
 pub mod LawsCalls
 pub mod LawsFetch
+pub mod LawsBlocks

@@ -1,25 +1,4 @@
-Where it stands: proved in one run of the edit loop, and left out. It copies a file into its slot by way of blocks of our
-own, of which the compiler makes calls of memmove. On aarch64 a put of 1 MiB took 1.07 to 1.11 with it and 0.99 to 1.01
-without, and puts of 2 KiB rose by 0.02. It is for x86-64, where the copy is a loop of 32 bytes a turn: to be timed there
-before it is taken. `fill_slot` calls `put_blocks` in place of `sheet::put_run`; its proof has `put-blocks` for `put-run`.
-
-== src/lib.rt
-fn put_blocks(out: &mut [u8], at: usize, bytes: &[u8])
-    requires { ⌜ at + length (now bytes) ≤ length (now out) ⌝ }
-    ensures { λ _. ⌜ now (out .exit) ≡ put (now (out .entry)) at (now (bytes .entry)) ⌝ }
-{
-    let mut done = 0;
-    while 4096 <= bytes.len() - done {
-        let end = done + 4096;
-        let mut block = [0u8; 4096];
-        sheet::put_run(&mut block, 0, &bytes[done..end]);
-        sheet::put_run(out, at + done, &block);
-        done = end;
-    }
-    sheet::put_run(out, at + done, &bytes[done..]);
-}
-
-== proofs/LawsBlocks.antt
+-- Bytes that are put block by block, by way of another block, are all put. Assumes nothing.
 use mathlib.Core.Path.{_≡_, sym, ap, _∙_}
 use Prim.Native.Nat.{ℕ, _+_, _-_, _≤_}
 use native.Mathlib.Omega.{arith}
@@ -29,10 +8,12 @@ use lib.Seq.{take-add, take-all, take-length, length-take-le}
 use Rattle.encoding.specs.Out.{put}
 use Rattle.encoding.proofs.LawsOut.{put-append, put-same, length-put}
 
+-- What fills a list is all of it.
 put-whole : (s bs : List ℕ) → length bs ≡ length s → put s 0 bs ≡ bs
 put-whole s bs e = sym (take-all (length bs) (put s 0 bs) (omega (arith, length-put s 0 bs))) ∙ put-same s 0 bs (omega arith)
 
 module _ (out bs : List ℕ) (at : ℕ) (h : at + length bs ≤ length out) where
+  -- Behind what is put already, more of it ..
   put-more : (a b : ℕ) → a + b ≤ length bs → put (put out at (take a bs)) (at + a) (take b (drop a bs)) ≡ put out at (take (a + b) bs)
   put-more a b i =
       let t : length (take a bs) ≡ a = length-take-le a bs (omega arith) in
@@ -42,6 +23,7 @@ module _ (out bs : List ℕ) (at : ℕ) (h : at + length bs ≤ length out) wher
       (ap (put out at) (take-add a b bs) ∙ put-append (take a bs) (take b (drop a bs)) out at (omega arith) ∙
       ap (λ n. put (put out at (take a bs)) (at + n) (take b (drop a bs))) t)
 
+  -- .. so the next block, as the loop puts it ..
   pub next-block : (a b : ℕ) (now block next : List ℕ) → a + b ≤ length bs → now ≡ put out at (take a bs) →
       block ≡ put (replicate b 0) 0 (take (a + b - a) (drop a bs)) → next ≡ put now (at + a) block → next ≡ put out at (take (a + b) bs)
   next-block a b now block next i e f g =
@@ -53,31 +35,10 @@ module _ (out bs : List ℕ) (at : ℕ) (h : at + length bs ≤ length out) wher
       put-whole (replicate b 0) (take b (drop a bs)) (u ∙ sym (length-replicate b 0)) in
       g ∙ ap (λ n. put n (at + a) block) e ∙ ap (put (put out at (take a bs)) (at + a)) w ∙ put-more a b i
 
+  -- .. and the rest, which is less than a block.
   pub last-block : (a : ℕ) (now next : List ℕ) → a ≤ length bs → now ≡ put out at (take a bs) →
       next ≡ put now (at + a) (take (length bs - a) (drop a bs)) → next ≡ put out at bs
   last-block a now next i e g =
       let q : a + (length bs - a) ≡ length bs = omega arith in
       g ∙ ap (λ n. put n (at + a) (take (length bs - a) (drop a bs))) e ∙ put-more a (length bs - a) (omega arith) ∙
       ap (λ n. put out at (take n bs)) q ∙ ap (put out at) (take-length bs)
-
-== proofs/put_blocks/Proof.antt: every need that is not here is `search needs`
-Inv-loop out₀ at bytes done₀ out done = (done ≤ length bytes) × (out ≡ put out₀ at (take done bytes))
-μ-loop out₀ at bytes done₀ out done = length bytes - done
-loop-holds c = (omega arith, sym (put-nil _ _))
-loop-again c =
-    let p = c .before .before in
-    let b = p .before .before .before .before in
-    let t = b .before .before .before in
-    let l = t .before .loop in
-    let o = t .before .before .before .before in
-    let h : l .done + 4096 ≤ length (o .args .bytes .now) = omega (arith, t .loop-test .taken, l .inv .0) in
-    (h, next-block _ _ _ (o .pre) _ 4096 _ _ _ h (l .inv .1) (b .put-run .ensures) (p .put-run2 .ensures))
-same-length c =
-    let l = c .before .before .before .before .before .before .loop in
-    let e = ap length (l .inv .1) ∙ length-put _ _ _ in
-    search needs
-returns c =
-    let p = c .before .before in
-    let l = p .before .before .before .before .loop in
-    let o = p .before .before .before .before .before .before .before in
-    last-block _ _ _ (o .pre) _ _ _ (l .inv .0) (l .inv .1) (p .put-run3 .ensures)
