@@ -1,4 +1,3 @@
 pub mod LawsJudged
 pub mod LawsCalls
 pub mod LawsFetch
-pub mod LawsBlocks

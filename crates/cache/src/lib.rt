@@ -83,32 +83,12 @@ fn slot_for(owners: &[u8], slots: usize, held: usize) -> usize
     owners::free_row(owners)
 }
 
-// How many bytes are copied at once.
-const BLOCK: usize = 65536;
-
-// Puts bytes at a place where there is room for them, by way of a block of our own. The compiler sees that the block overlaps
-// neither side, which it cannot see of two lent slices: it makes one memmove of the two copies, and leaves the block out.
-fn put_blocks(out: &mut [u8], at: usize, bytes: &[u8])
-    requires { ⌜ at + length (now bytes) ≤ length (now out) ⌝ }
-    ensures { λ _. ⌜ now (out .exit) ≡ put (now (out .entry)) at (now (bytes .entry)) ⌝ }
-{
-    let mut done = 0;
-    while BLOCK <= bytes.len() - done {
-        let end = done + BLOCK;
-        let mut block = [0u8; BLOCK];
-        sheet::put_run(&mut block, 0, &bytes[done..end]);
-        sheet::put_run(out, at + done, &block);
-        done = end;
-    }
-    sheet::put_run(out, at + done, &bytes[done..]);
-}
-
 // A slot begins with these bytes, and the rest of it is cleared.
 fn fill_slot(cache: &mut [u8], start: usize, size: usize, bytes: &[u8])
     requires { ⌜ (start + size ≤ length (now cache)) × (length (now bytes) ≤ size) ⌝ }
     ensures { λ _. ⌜ now (cache .exit) ≡ put (now (cache .entry)) start (now (bytes .entry) ++ replicate (size - length (now (bytes .entry))) 0) ⌝ }
 {
-    put_blocks(cache, start, bytes);
+    sheet::put_long_run(cache, start, bytes);
     encoding::clear(cache, start + bytes.len(), size - bytes.len());
 }
 

@@ -1,2 +1,3 @@
 pub mod LawsStore
 pub mod LawsWords
+pub mod LawsBlocks

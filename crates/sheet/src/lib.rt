@@ -4,7 +4,8 @@ use encoding::EncodingWriter;
 use reading::NumRead;
 use reading::Reader;
 ghost use mathlib.Core.Path.{_≡_};
-ghost use lib.ListN.{getD};
+ghost use Prim.Native.Nat.{_+_, _≤_};
+ghost use lib.ListN.{length, getD};
 ghost use Rattle.encoding.specs.Out.{put};
 ghost use Rattle.sheet.specs.Store.{putWord, wordsIn};
 
@@ -39,4 +40,35 @@ pub fn put_run(pool: &mut [u8], at: usize, run: &[u8])
         required_alignment: 1,
     };
     writer.write_bytes(pool, run);
+}
+
+// How many bytes of a long run are stored at once.
+const BLOCK: usize = 65536;
+
+// Stores a run that has room, by way of a block of our own. The compiler sees that the block overlaps neither side, which it
+// cannot see of two lent slices: it makes one memmove of the two copies, and leaves the block out.
+fn put_blocks(pool: &mut [u8], at: usize, run: &[u8])
+    requires { ⌜ at + length (now run) ≤ length (now pool) ⌝ }
+    ensures { λ _. ⌜ now (pool .exit) ≡ put (now (pool .entry)) at (now (run .entry)) ⌝ }
+{
+    let mut done = 0;
+    while BLOCK <= run.len() - done {
+        let end = done + BLOCK;
+        let mut block = [0u8; BLOCK];
+        put_run(&mut block, 0, &run[done..end]);
+        put_run(pool, at + done, &block);
+        done = end;
+    }
+    put_run(pool, at + done, &run[done..]);
+}
+
+// Stores a run as `put_run` does; it is for runs that may be long.
+pub fn put_long_run(pool: &mut [u8], at: usize, run: &[u8])
+    ensures { λ _. ⌜ now (pool .exit) ≡ put (now (pool .entry)) at (now (run .entry)) ⌝ }
+{
+    if at <= pool.len() {
+        if run.len() <= pool.len() - at {
+            put_blocks(pool, at, run);
+        }
+    }
 }

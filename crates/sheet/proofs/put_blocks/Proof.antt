@@ -5,16 +5,16 @@ use native.Mathlib.Omega.{arith}
 use lib.ListN.{length, take}
 use Rattle.encoding.specs.Out.{put}
 use Rattle.encoding.proofs.LawsOut.{put-nil, length-put}
-use Rattle.cache.proofs.LawsBlocks.{next-block, last-block}
+use Rattle.sheet.proofs.LawsBlocks.{next-block, last-block}
 use borrow.Author.Needs.{needs}
-use Rattle.cache.proofs.put_blocks.Statement.{statement}
-use Rattle.cache.proofs.put_blocks.Tie as tie
+use Rattle.sheet.proofs.put_blocks.Statement.{statement}
+use Rattle.sheet.proofs.put_blocks.Tie as tie
 
 abbrev Inv-loop : tie.InvT-loop
-Inv-loop out₀ at bytes done₀ out done = (done ≤ length bytes) × (out ≡ put out₀ at (take done bytes))
+Inv-loop pool₀ at run done₀ pool done = (done ≤ length run) × (pool ≡ put pool₀ at (take done run))
 
 abbrev μ-loop : tie.MeasureT-loop
-μ-loop out₀ at bytes done₀ out done = length bytes - done
+μ-loop pool₀ at run done₀ pool done = length run - done
 
 loop-holds : tie.Need-loop-holds Inv-loop μ-loop
 loop-holds c = (omega arith, sym (put-nil _ _))
@@ -59,7 +59,7 @@ loop-again c =
     let t = b .before .before .before in
     let l = t .before .loop in
     let o = t .before .before .before .before in
-    let h : l .done + 65536 ≤ length (o .args .bytes .now) = omega (arith, t .loop-test .taken, l .inv .0) in
+    let h : l .done + 65536 ≤ length (o .args .run .now) = omega (arith, t .loop-test .taken, l .inv .0) in
     (h, next-block _ _ _ (o .pre) _ 65536 _ _ _ h (l .inv .1) (b .put-run .ensures) (p .put-run2 .ensures))
 
 add-put-run-2 : tie.Need-add-put-run-2 Inv-loop μ-loop
