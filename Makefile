@@ -16,8 +16,8 @@
 SHELL := bash
 .SHELLFLAGS := -euo pipefail -c
 .DELETE_ON_ERROR:
-.PHONY: help demo test command bench answers proofs verdict cpp-tests emulated-tests reader-tests comparison setup-tests
-.PHONY: lint clean
+.PHONY: help demo test command bench answers proofs verdict cpp-tests emulated-tests reader-tests comparison
+.PHONY: emulated-comparison setup-tests lint clean
 MAKEFLAGS += --no-builtin-rules --no-print-directory
 
 help:
@@ -58,8 +58,8 @@ ifneq ($(filter test,$(MAKECMDGOALS)),)
 .NOTPARALLEL:
 endif
 TWO = $(if $(findstring -j,$(MAKEFLAGS)),,-j2) --output-sync=target --keep-going
-PARTS := comparison cpp-tests $(if $(EMULATED),emulated-tests) archive-tests install-tests sanitizers threads fuzz \
-    reader-tests setup-tests
+PARTS := comparison $(if $(EMULATED),emulated-comparison emulated-tests) cpp-tests archive-tests install-tests sanitizers \
+    threads fuzz reader-tests setup-tests
 
 test: build/setup
 	sed -i '/^== set-up: /!d' build/times
@@ -102,14 +102,20 @@ emulated-tests: build/x86-64/all_tests build/x86-64/tikomuci
 reader-tests: $(LIBRARY) | build/setup
 	tools/timed "reader tests" cargo $(READER_TESTS)
 
-comparison: $(X86_64_LIBRARY) | build/setup
+comparison: $(LIBRARY) | build/setup
 ifneq ($(HAS_RUST),)
-	tools/timed "comparison with the Rust" $(X86_64_CARGO) $(COMPARE) --release -- $(COMPARED)
-	tools/timed "comparison with overflow checks" $(X86_64_CARGO) $(COMPARE) --profile checked -- --small $(COMPARED)
+	tools/timed "comparison with the Rust" cargo $(COMPARE) --release -- $(COMPARED)
+	tools/timed "comparison with overflow checks" cargo $(COMPARE) --profile checked -- --small $(COMPARED)
 else ifeq ($(CI),true)
 	@echo "no Rust source at $(RUST_SOURCE): with CI=true the comparison may not be left out" >&2; exit 1
 else
 	@echo "no Rust source at $(RUST_SOURCE): the comparison with encoding.rs and decoder.rs was LEFT OUT"
+endif
+
+# Where rt's archive is run by the emulator, one of twenty cases is compared.
+emulated-comparison: $(X86_64_LIBRARY) | build/setup
+ifneq ($(HAS_RUST),)
+	tools/timed "comparison, x86-64" $(X86_64_CARGO) $(COMPARE) --release -- --small $(COMPARED)
 endif
 
 bench: $(LIBRARY) | build/setup

@@ -16,7 +16,7 @@ FIXED_SEED := 1
 COMPARED := $(if $(HAS_WRITER),--genuine $(GENUINE)) $(SEED)
 
 ifneq ($(HAS_RUST),)
-comparison answers: genuine
+comparison emulated-comparison answers: genuine
 endif
 
 ifneq ($(HAS_WRITER),)

@@ -24,12 +24,20 @@ using tikomuci::Bytes;
 using tikomuci::Output;
 
 constexpr std::size_t SLOT = 100;
+// The library copies a long file by so many bytes at once.
+constexpr std::size_t BLOCK = 65536;
 constexpr std::array<std::uint64_t, 6> WORDS = {0, 1, SLOT, SLOT + 1, std::uint64_t{1} << 63, FAR};
 
+// No page has fewer bytes.
+constexpr std::size_t PAGE = 4096;
+
 struct Memories {
-    Guarded buffer{2};
+    explicit Memories(std::size_t buffer_size = 2 * PAGE, std::size_t file_size = PAGE)
+        : buffer((buffer_size + PAGE - 1) / PAGE), file((file_size + PAGE - 1) / PAGE) {}
+
+    Guarded buffer;
     Guarded owners{1};
-    Guarded file{1};
+    Guarded file;
 };
 
 // The stores of an empty cache, each at a side of its memory.
@@ -142,6 +150,38 @@ void other_lengths(const Calls &calls, Side side) {
     }
 }
 
+// A file of exactly this size. A byte of its constant tells its place, so that no part stands for another.
+Wire file_of_size(std::size_t size) {
+    Wire constant(2 * size - file_of({Wire(size)}).size());
+    for (std::size_t i = 0; i < constant.size(); ++i) {
+        constant[i] = static_cast<std::uint8_t>(i ^ i >> 8 ^ i >> 16);
+    }
+    return file_of({constant});
+}
+
+// A file about as long as the blocks by which a long one is copied, in the first slot and in the last: file and last
+// slot end at a guard. The slots between them are taken.
+void long_files(const Calls &calls, std::size_t size, Side side) {
+    Memories memories(calls.slots * size, size);
+    const Stores stores(memories, calls, size, side);
+    for (std::size_t slot = 1; slot + 1 < calls.slots; ++slot) {
+        const Wire row = little_endian({1, slot, 0});
+        std::copy(row.begin(), row.end(),
+                  stores.owners.begin() + static_cast<std::ptrdiff_t>(slot * TIKOMUCI_OWNER_BYTES));
+    }
+    Tried cache = stores.tried(calls);
+    const Wire file = file_of_size(size);
+    const Bytes lent = memories.file.lent(file, side);
+    const auto first = cache.put(0, lent);
+    const auto last = cache.put(FAR, lent);
+    expect(file.size() == size && first.refusal == 0 && last.refusal == 0 && last.first + 1 == calls.slots,
+           "a file as long as its slot");
+    expect(cache.fetch(0, 0).refusal == 0 && cache.fetch(FAR, 0).refusal == 0, "and its constant");
+    expect(cache.put(0, memories.file.lent(file_of({{1}}), side)).refusal == 0, "a short file in its place");
+    expect(cache.drop(FAR).refusal == 0, "a long file is dropped");
+    expect(stores.apart(), "no byte outside the stores of long files changes");
+}
+
 }  // namespace
 
 void cache_guard_tests() {
@@ -150,6 +190,9 @@ void cache_guard_tests() {
             histories(calls, side);
             damaged_tables(calls, side);
             other_lengths(calls, side);
+            for (const std::size_t size : {BLOCK - 1, BLOCK, BLOCK + 1, 2 * BLOCK - 1, 2 * BLOCK, 2 * BLOCK + 1}) {
+                long_files(calls, size, side);
+            }
         }
     }
 }
