@@ -16,15 +16,14 @@ use Rattle.format.proofs.LawsStands.{stands-bytes}
 use Rattle.format.proofs.Viewed.{then-inv, constant-viewed}
 use Rattle.container.specs.declared.ViewRead.{ViewRead}
 use Rattle.container.specs.Views.{viewOf}
-use Rattle.slots.specs.Cache.{Slot, free, held, HeldBy, isHeldBy, fileIn, InSlot, slotOf, orRefused, dropIn, fetchIn}
+use Rattle.slots.specs.Cache.{Slot, free, held, fileIn, InSlot, slotOf, orRefused, dropIn, fetchIn}
 use Rattle.slots.specs.Lent.{Lent, lengthAt, slotSize, Good, slotAt, slotsUpTo}
 use Rattle.slots.specs.Meaning.{cacheOf, ofCache, fetchAnswer, dropAnswer, inBuffer}
 use Rattle.owners.specs.Owners.{RowOf}
 use Rattle.cache.specs.Calls.{placedAt, Fetched, FetchPost}
-use Rattle.slots.proofs.LawsLowest.{Found, LowestAt, lowest-found}
-use Rattle.slots.proofs.LawsSlots.{length-slots, slots-at}
+use Rattle.slots.proofs.LawsSlots.{slots-at}
 use Rattle.slots.proofs.LawsStored.{good-cache, fileAt, taken-slot}
-use Rattle.slots.proofs.LawsFound.{answered, or-refused-inv, found-at, of-held}
+use Rattle.slots.proofs.LawsFound.{answered, or-refused-inv, held-row}
 use Rattle.slots.proofs.LawsCache.{fetch-file}
 use Rattle.slots.proofs.LawsHistory.{cache-once}
 use Rattle.slots.proofs.FetchOwn.{slot-bytes}
@@ -57,14 +56,12 @@ module _ (n i : ℕ) (s : Lent) where
   holds z k e q =
       let (g, a) = answered n s (dropIn i) k q in
       let y : slotOf i slots ≡ some k = or-refused-inv refusals.notThere (slotOf i slots) k a in
-      let x : LowestAt (HeldBy i) slots k = found-at (subst (Found (HeldBy i) slots) y (lowest-found (isHeldBy i) slots)) in
-      let h : k < n = omega (arith, x .inside, length-slots n (slotAt n s)) in
-      let r = of-held n s i k h (x .such) in
+      let (h, t, o) = held-row n s i k y in
       record {
         good = g;
         inside = h;
-        row = r;
-        fits = rw e (g .rows .fits k h (r .0));
+        row = (t, o);
+        fits = rw e (g .rows .fits k h t);
         room = slot-room n k z s g e h;
         row-room = omega (arith, g .owners);
       }
@@ -141,8 +138,15 @@ module _ (n i : ℕ) (s : Lent) where
   fetch-post k q e = record { answer = e; sound = λ p a. fetch-sound k p (sym e ∙ a) }
 
 -- A part of a buffer, by its length.
-pub part-is : (b : List ℕ) (start size : ℕ) → take (start + size - start) (drop start b) ≡ take size (drop start b)
+part-is : (b : List ℕ) (start size : ℕ) → take (start + size - start) (drop start b) ≡ take size (drop start b)
 part-is b start size = let d : start + size - start ≡ size = omega arith in ap (λ j. take j (drop start b)) d
+
+-- What the view q of that part answers, at its place in the buffer.
+pub view-placed : (b : List ℕ) (start size k : ℕ) (q v : ViewRead) → q ≡ v →
+    viewOf q ≡ constantView (take (start + size - start) (drop start b)) k →
+    mapRead (placedAt start) (viewOf v) ≡ mapRead (placedAt start) (constantView (take size (drop start b)) k)
+view-placed b start size k q v e a =
+    ap (mapRead (placedAt start)) (sym (ap viewOf e) ∙ a ∙ ap (λ f. constantView f k) (part-is b start size))
 
 -- What is viewed begins in the file.
 pub view-begins : (b : List ℕ) (start size k : ℕ) (p : Span) →

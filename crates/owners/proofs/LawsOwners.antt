@@ -1,38 +1,36 @@
 -- How the owner table is looked through: a row that is wanted or not, the first one, and rows that are good one after the
 -- other. Assumes nothing.
-use mathlib.Core.Path.{_≡_, refl, sym, ap, subst, _∙_}
+use mathlib.Core.Path.{_≡_, refl, sym, ap, subst}
 use Prim.Native.Nat.{ℕ, _+_, _≤_, _<_}
 use native.Mathlib.Omega.{arith}
 use native.Mathlib.Decide.{ℕ-discrete, decLt}
-use mathlib.Core.Bool.{Bool, true, false, not, true≢false}
+use mathlib.Core.Bool.{Bool, true, false, not}
 use mathlib.Core.List.{List}
 use lib.Dec.{eqb}
 use borrow.Author.Tests.{eq-eqb, ne-eqb}
 use Rattle.encoding.specs.Out.{Tells}
+use Rattle.encoding.proofs.LawsTells.{tells-yes, tells-no}
 use Rattle.owners.specs.declared.HeldRow.{HeldRow}
 use Rattle.owners.specs.declared.HeldRow.the-variants as held
 use Rattle.slots.specs.Lent.{markAt, instanceAt, lengthAt, Taken, Rows}
 use Rattle.owners.specs.Owners.{RowOf, FirstRow, HeldAmong}
 
--- Any true test tells of what holds, and any false one of what does not.
-pub tells-yes : {P : Type 0} {t : Bool} → t ≡ true → P → Tells P t
-tells-yes e p = record { holds = λ _. p; fails = λ f. absurd (true≢false (sym e ∙ f)) }
-
-pub tells-no : {P : Type 0} {t : Bool} → t ≡ false → ¬ P → Tells P t
-tells-no e h = record { holds = λ f. absurd (true≢false (sym f ∙ e)); fails = λ _. h }
-
 -- A negation tells of what is the other's negation.
 pub tells-not : {P Q : Type 0} {t : Bool} → Tells P t → (P → ¬ Q) → (¬ P → Q) → Tells Q (not t)
-tells-not {t = true} x to from = tells-no refl (to (x .holds refl))
-tells-not {t = false} x to from = tells-yes refl (from (x .fails refl))
+tells-not {t = true} x to from = tells-no (to (x .holds refl))
+tells-not {t = false} x to from = tells-yes (from (x .fails refl))
 
--- A comparison of two numbers tells of what is the same as their equality.
+-- A comparison of two numbers that differ tells of what does not hold ..
+pub tells-differ : {P : Type 0} (a b : ℕ) → ¬ (a ≡ b) → ¬ P → Tells P (eqb a b)
+tells-differ {P} a b n h = subst (Tells P) (sym (ne-eqb a b n)) (tells-no h)
+
+-- .. and one of any two of what is the same as their equality.
 pub tells-equal : {P : Type 0} (a b : ℕ) → (a ≡ b → P) → (P → a ≡ b) → Tells P (eqb a b)
 tells-equal {P} a b to from = go (ℕ-discrete a b)
   where
     go : Dec (a ≡ b) → Tells P (eqb a b)
-    go (yes e) = tells-yes (eq-eqb a b e) (to e)
-    go (no n) = tells-no (ne-eqb a b n) (λ p. n (from p))
+    go (yes e) = subst (Tells P) (sym (eq-eqb a b e)) (tells-yes (to e))
+    go (no n) = tells-differ a b n (λ p. n (from p))
 
 -- The first row: so far none was wanted, and now one is ..
 pub first-here : {P : ℕ → Type 0} {n k : ℕ} → k < n → P k → ((l : ℕ) → l < k → ¬ P l) → FirstRow P n k

@@ -88,12 +88,23 @@ module _ (n : ℕ) (s : Lent) where
   of-free l h x t = subst Free (slots-at n (slotAt n s) l free h ∙ taken-slot n s l t) x
 
   module _ (i k : ℕ) where
-    -- The slot that i holds is its own ..
-    pub own-held : Good n s → slotOf i slots ≡ some k → Own n i s k
-    own-held g e =
-        let x : LowestAt (HeldBy i) slots k = found-at (subst (Found (HeldBy i) slots) e (lowest-found (isHeldBy i) slots)) in
+    -- The slot that i holds is the lowest that it does ..
+    held-lowest : slotOf i slots ≡ some k → LowestAt (HeldBy i) slots k
+    held-lowest e = found-at (subst (Found (HeldBy i) slots) e (lowest-found (isHeldBy i) slots))
+
+    -- .. and its row is taken by i ..
+    pub held-row : slotOf i slots ≡ some k → (k < n) × Taken (s .owners) k × (instanceAt (s .owners) k ≡ i)
+    held-row e =
+        let x = held-lowest e in
         let h : k < n = omega (arith, x .inside, length-slots n (slotAt n s)) in
         let (t, q) = of-held i k h (x .such) in
+        (h, t, q)
+
+    -- .. so that it is its own ..
+    pub own-held : Good n s → slotOf i slots ≡ some k → Own n i s k
+    own-held g e =
+        let x = held-lowest e in
+        let (h, t, q) = held-row e in
         record { inside = h; own = λ _. q; alone = λ l b d u p. one x h t q l b d u p (decLt l k) }
       where
         one : LowestAt (HeldBy i) slots k → k < n → Taken (s .owners) k → instanceAt (s .owners) k ≡ i → (l : ℕ) → l < n → ¬ (l ≡ k) →

@@ -150,7 +150,7 @@ void other_lengths(const Calls &calls, Side side) {
     }
 }
 
-// A file of exactly this size. A byte of its constant tells its place, so that no part stands for another.
+// A file of exactly this size. Bytes of its constant that are 256 or 65,536 places apart differ.
 Wire file_of_size(std::size_t size) {
     Wire constant(2 * size - file_of({Wire(size)}).size());
     for (std::size_t i = 0; i < constant.size(); ++i) {

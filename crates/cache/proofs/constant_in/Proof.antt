@@ -1,12 +1,10 @@
 -- `constant_in` views a constant of a file in the buffer, at its place there. Assumes nothing.
-use mathlib.Core.Path.{sym, ap, _∙_}
+use mathlib.Core.Path.{ap}
 use native.Mathlib.Omega.{arith}
 use borrow.Author.Needs.{needs}
 use Rattle.format.specs.Read.{mapRead}
-use Rattle.format.specs.Views.{constantView}
 use Rattle.container.specs.Views.{viewOf}
-use Rattle.cache.specs.Calls.{placedAt}
-use Rattle.cache.proofs.LawsFetch.{part-is, view-begins}
+use Rattle.cache.proofs.LawsFetch.{view-placed, view-begins}
 use Rattle.cache.proofs.constant_in.Statement.{statement}
 use Rattle.cache.proofs.constant_in.Tie as tie
 
@@ -43,18 +41,14 @@ unfolding mapRead
 returns c =
     let p = c .before .before .before in
     let a = p .before .before .before .args in
-    ap (mapRead (placedAt (a .start)))
-    (sym (ap viewOf (c .before .x .given .1)) ∙ p .constant .ensures .answer ∙
-    ap (λ f. constantView f (a .index)) (part-is (a .cache .now) (a .start) (a .len)))
+    view-placed (a .cache .now) (a .start) (a .len) (a .index) _ _ (c .before .x .given .1) (p .constant .ensures .answer)
 
 returns-2 : tie.Need-returns-2
 unfolding mapRead
 returns-2 c =
     let p = c .before .before .before .before in
     let a = p .before .before .before .args in
-    ap (mapRead (placedAt (a .start)))
-    (sym (ap viewOf (c .before .before .view .given .1)) ∙ p .constant .ensures .answer ∙
-    ap (λ f. constantView f (a .index)) (part-is (a .cache .now) (a .start) (a .len)))
+    view-placed (a .cache .now) (a .start) (a .len) (a .index) _ _ (c .before .before .view .given .1) (p .constant .ensures .answer)
 
 pub constant-in-spec : {M : Type 1} → statement M
 constant-in-spec =

@@ -1,11 +1,12 @@
 -- `is_new` tells whether a row's instance is new among those that are noted, and notes it. Assumes nothing.
-use mathlib.Core.Path.{refl, subst}
+use mathlib.Core.Path.{subst}
 use mathlib.Core.Logic.{⊎-elim}
 use Prim.Native.Nat.{_-_, _≤_, _<_}
 use native.Mathlib.Omega.{arith}
 use lib.ListN.{getD}
 use borrow.Author.Needs.{needs}
-use Rattle.owners.proofs.LawsOwners.{tells-yes, tells-not}
+use Rattle.encoding.proofs.LawsTells.{tells-yes}
+use Rattle.owners.proofs.LawsOwners.{tells-not}
 use Rattle.owners.proofs.LawsNotes.{
   first-new,
   first-noted,
@@ -52,7 +53,7 @@ returns c =
     let b = c .before .before .bucket .ensures in
     let e = subst (λ j. getD (o .args .notes .now) j 0 < 128) b (c .if1 .taken) in
     record {
-      told = tells-yes refl (first-new x _ e);
+      told = tells-yes (first-new x _ e);
       after = first-noted x _ _ _ b (c .if1 .taken) (omega arith) (omega arith) (λ h. omega arith);
     }
 

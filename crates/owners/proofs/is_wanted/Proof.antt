@@ -2,8 +2,7 @@
 use mathlib.Core.Path.{sym, ap, _∙_}
 use native.Mathlib.Omega.{arith}
 use borrow.Author.Needs.{needs}
-use borrow.Author.Tests.{ne-eqb}
-use Rattle.owners.proofs.LawsOwners.{tells-no, tells-not, tells-equal}
+use Rattle.owners.proofs.LawsOwners.{tells-not, tells-differ, tells-equal}
 use Rattle.owners.proofs.is_wanted.Statement.{statement}
 use Rattle.owners.proofs.is_wanted.Tie as tie
 
@@ -34,7 +33,7 @@ returns-3 : tie.Need-returns-3
 returns-3 c =
     let e = ap (λ r. r .instance) (c .before .before .before .before .before .row-at .ensures) in
     rw (c .before .before .before .wanted .given .1)
-    (tells-no (ne-eqb _ _ (c .if1 .left)) (λ p. c .if1 .left (e ∙ p .1)))
+    (tells-differ _ _ (c .if1 .left) (λ p. c .if1 .left (e ∙ p .1)))
 
 pub is-wanted-spec : {M : Type 1} → statement M
 is-wanted-spec = tie.close (tie.spec row-at-requires enum-told enum-known-wanted returns returns-2 returns-3)

@@ -1,12 +1,13 @@
 -- `rows_good` tells whether the rows are good: in its loop, those so far are, and they are noted. Assumes nothing.
-use mathlib.Core.Path.{refl, ap}
+use mathlib.Core.Path.{ap}
 use Prim.Native.Nat.{_-_, _≤_}
 use native.Mathlib.Omega.{arith}
 use mathlib.Core.Logic.{⊎-elim}
 use borrow.Author.Needs.{needs}
 use borrow.Author.Tests.{leb-true, not-true, not-false}
 use Rattle.owners.specs.Notes.{SoFar}
-use Rattle.owners.proofs.LawsOwners.{tells-yes, tells-no, no-rows}
+use Rattle.encoding.proofs.LawsTells.{tells-yes, tells-no}
+use Rattle.owners.proofs.LawsOwners.{no-rows}
 use Rattle.owners.proofs.LawsNotes.{no-notes, fewer-rows, quick-turn, good-turn, all-rows}
 use Rattle.owners.proofs.rows_good.Statement.{statement}
 use Rattle.owners.proofs.rows_good.Tie as tie
@@ -61,7 +62,7 @@ returns : tie.Need-returns Inv-loop μ-loop
 returns c =
     let r = c .before .before .before in
     let t = r .before .before .before .before .before .before in
-    tells-no refl
+    tells-no
     (λ g. r .row-good .ensures .bad (not-true _ (c .if3 .taken)) (fewer-rows (omega (arith, t .loop-test .taken)) g))
 
 add-row : tie.Need-add-row Inv-loop μ-loop
@@ -90,7 +91,7 @@ same-length-2 c = search needs
 returns-2 : tie.Need-returns-2 Inv-loop μ-loop
 returns-2 c =
     let l = c .before .loop in
-    tells-yes refl (all-rows (l .inv .1) _ (l .inv .0) (c .loop-test .left))
+    tells-yes (all-rows (l .inv .1) _ (l .inv .0) (c .loop-test .left))
 
 pub rows-good-spec : {M : Type 1} → statement M
 rows-good-spec =
