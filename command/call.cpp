@@ -15,6 +15,7 @@ const std::string_view HELP =
     "tikomuci constant [--json] FILE N -o OUT         those of constant N\n"
     "tikomuci body [--json] FILE N -o OUT             those of the body of function N\n"
     "tikomuci section [--json] FILE SECTION -o OUT    those of the payload of a section, by its name or its id\n"
+    "tikomuci type [--json] FILE N                    prints the text of type N, counted from 0\n"
     "tikomuci cache [--json] OWNERS BUFFER            shows who holds which slot of a cache, by its two stores\n"
     "tikomuci cache-demo [--json] [-o OUT] FILE..     puts files into a cache, and shows who holds which slot\n"
     "tikomuci --help                                  prints this\n"
@@ -38,8 +39,8 @@ const std::string_view HELP =
 namespace {
 
 // In the order of the verbs.
-constexpr std::array<std::string_view, 8> WORDS = {"show", "check",   "string", "constant",
-                                                   "body", "section", "cache",  "cache-demo"};
+constexpr std::array<std::string_view, 9> WORDS = {"show",    "check", "string", "constant",  "body",
+                                                   "section", "type",  "cache",  "cache-demo"};
 
 // The words and options, before anybody asks what they mean.
 struct Line {
@@ -144,6 +145,19 @@ void take_instances(Call &call, const Line &line) {
     call.stores = line.out;
 }
 
+// `type`: a file, and the number of a row.
+void take_row(Call &call, const Line &line) {
+    if (line.words.size() != 3) {
+        throw Misuse{line.words[0] + " takes FILE and N"};
+    }
+    const auto number = number_of(line.words[2]);
+    if (!number) {
+        throw Misuse{line.words[2] + " is no number of a row"};
+    }
+    call.files = {line.words[1]};
+    call.number = *number;
+}
+
 // The others: a file, which part of it, and OUT.
 void take_part(Call &call, const Line &line) {
     const bool section = call.verb == Verb::Section;
@@ -185,6 +199,10 @@ Call understood(const std::vector<std::string> &arguments) {
         case Verb::Check:
             refuse_out(line);
             take_files(call, line);
+            break;
+        case Verb::Type:
+            refuse_out(line);
+            take_row(call, line);
             break;
         case Verb::Cache:
             refuse_out(line);

@@ -10,9 +10,9 @@
 
 namespace command {
 
-enum class Verb { Show, Check, String, Constant, Body, Section, Cache, CacheDemo, Help, Version };
+enum class Verb { Show, Check, String, Constant, Body, Section, Type, Cache, CacheDemo, Help, Version };
 
-/// The word for one of the first eight.
+/// The word for one of the first nine.
 std::string_view word_of(Verb verb);
 
 /// What the command was called with.

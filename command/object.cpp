@@ -4,6 +4,7 @@
 
 #include "json.hpp"
 #include "sha256.hpp"
+#include "types.hpp"
 
 namespace command::object {
 
@@ -77,10 +78,10 @@ struct Fields {
 
 void put_sum(Json &json, Bytes bytes) { json.key("length").number(bytes.size()).key("sha256").hex(sha256(bytes)); }
 
-void put_row(Json &json, const tikomuci::Type &row) {
+void put_row(Json &json, const tikomuci::Type &row, std::string_view text) {
     json.open('{').key("kind").text(tikomuci::type_name(row.tag));
     std::visit(Fields{json}, row.kind);
-    json.close('}');
+    json.key("text").text(text).close('}');
 }
 
 void put_row(Json &json, const tikomuci::Global &row) {
@@ -123,11 +124,18 @@ void put_constants(Json &json, const Sheet &sheet, std::uint64_t constants_at) {
     });
 }
 
+void put_types(Json &json, const Sheet &sheet) {
+    TypeTexts texts(sheet);
+    std::uint64_t number = 0;
+    put_table(json, "types", sheet.types(),
+              [&](const tikomuci::Type &type) { put_row(json, type, texts.text(number++)); });
+}
+
 void put_tables(Json &json, const Sheet &sheet, std::uint64_t constants_at) {
     const auto put = [&](const auto &row) { put_row(json, row); };
     json.key("producer").number(sheet.producer());
     put_table(json, "strings", sheet.strings(), [&](Bytes string) { json.text(string); });
-    put_table(json, "types", sheet.types(), put);
+    put_types(json, sheet);
     put_constants(json, sheet, constants_at);
     put_table(json, "globals", sheet.globals(), put);
     put_table(json, "functions", sheet.functions(), put);
@@ -225,6 +233,12 @@ void put_view(Sink &out, std::string_view name, std::string_view key, std::uint6
     Json json = accepted(out, name);
     json.key(key).number(number).key("offset").number(offset);
     put_sum(json, bytes);
+    end(out, json);
+}
+
+void put_type(Sink &out, std::string_view name, std::uint64_t number, std::string_view text) {
+    Json json = accepted(out, name);
+    json.key("type").number(number).key("text").text(text);
     end(out, json);
 }
 

@@ -1,4 +1,5 @@
-// What is said of a file, as one object of JSON in one line. Rows are as the sheet has them, and no name is resolved.
+// What is said of a file, as one object of JSON in one line. Rows are as the sheet has them, and no name is resolved;
+// those of types have their texts too.
 #ifndef TIKOMUCI_COMMAND_OBJECT_HPP
 #define TIKOMUCI_COMMAND_OBJECT_HPP
 
@@ -33,6 +34,9 @@ void put_shown(Sink &out, std::string_view name, const Container &container, con
 /// A part of a file: what it is (`key` and `number`), where, and its checksum.
 void put_view(Sink &out, std::string_view name, std::string_view key, std::uint64_t number, std::uint64_t offset,
               tikomuci::Bytes bytes);
+
+/// The text of a type, and its number.
+void put_type(Sink &out, std::string_view name, std::uint64_t number, std::string_view text);
 
 /// A file that was put for an instance: its slot, or its refusal.
 void put_answer(Sink &out, std::string_view name, std::uint64_t instance, const tikomuci_answer &answer);

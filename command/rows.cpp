@@ -1,12 +1,13 @@
-// The rows of a sheet as text. The words for types and debug attributes are those of the dump in decoder.rs.
+// The rows of a sheet as text. The words for debug attributes are those of the dump in decoder.rs, as those for types
+// are, which the library has.
 
 #include <array>
-#include <limits>
 #include <utility>
 
 #include "escape.hpp"
 #include "sha256.hpp"
 #include "text.hpp"
+#include "types.hpp"
 
 namespace command::text {
 
@@ -16,16 +17,15 @@ using tikomuci::Bytes;
 using tikomuci::Sheet;
 using tikomuci::Words;
 
-// How much of a string, or how many inputs and results, are shown where another row names them.
+// How much of a string is shown where another row names it.
 constexpr std::size_t LONGEST = 64;
 // How many bytes of a checksum are shown. JSON has them all.
 constexpr std::size_t CHECKSUM = 8;
-constexpr std::int64_t DYNAMIC = std::numeric_limits<std::int64_t>::min();
 
 /// Puts pieces of rows, and what a row says of another.
 class Rows {
   public:
-    Rows(Sink &out, const Sheet &sheet) : out_(out), sheet_(sheet) {}
+    Rows(Sink &out, const Sheet &sheet) : out_(out), sheet_(sheet), texts_(sheet) {}
 
     [[nodiscard]] const Sheet &sheet() const { return sheet_; }
 
@@ -44,17 +44,8 @@ class Rows {
         return put(Quoted{first_characters(*bytes, LONGEST)}, bytes->size() <= LONGEST ? "" : "..");
     }
 
-    /// A scalar by its name, any other type by its number.
-    Rows &type(std::uint64_t i) {
-        const auto row = sheet_.type(i);
-        if (!row) {
-            return put("<no type ", i, '>');
-        }
-        if (std::holds_alternative<tikomuci::Scalar>(row->kind)) {
-            return put(tikomuci::type_name(row->tag));
-        }
-        return put('#', i);
-    }
+    /// A type by its text, or by its number if that is long.
+    Rows &type(std::uint64_t i) { return i < sheet_.types().size() ? put(texts_.text(i)) : put("<no type ", i, '>'); }
 
     template <typename List, typename Item>
     Rows &joined(const List &list, std::string_view between, Item item) {
@@ -65,23 +56,6 @@ class Rows {
             item(value);
         }
         return *this;
-    }
-
-    template <typename List>
-    Rows &dims(const List &list, std::string_view between) {
-        return joined(list, between, [this](std::int64_t d) { d == DYNAMIC ? put('?') : put(d); });
-    }
-
-    Rows &shaped(const tikomuci::I64s &shape, std::uint64_t element) {
-        return dims(shape, "x").put(shape.empty() ? "" : "x").type(element);
-    }
-
-    Rows &types(const Words &list) {
-        return joined(list, ", ", [this](std::uint64_t i) { type(i); });
-    }
-
-    Rows &optional(std::string_view label, const std::optional<std::uint64_t> &value) {
-        return value ? put(", ", label, '=', *value) : *this;
     }
 
     /// How long a run of bytes is, where it begins if that is known, and its checksum.
@@ -97,59 +71,8 @@ class Rows {
   private:
     Sink &out_;
     const Sheet &sheet_;
+    TypeTexts texts_;
 };
-
-// The text of a type, by its kind.
-struct Described {
-    Rows &rows;
-    tikomuci::TypeTag tag;
-
-    void operator()(const tikomuci::Scalar &) const { rows.put(tikomuci::type_name(tag)); }
-
-    void operator()(const tikomuci::Pointer &t) const {
-        rows.put("ptr<").type(t.element).optional("ptr_attr", t.attribute).put('>');
-    }
-
-    void operator()(const tikomuci::Tile &t) const { rows.put("tile<").shaped(t.shape, t.element).put('>'); }
-
-    void operator()(const tikomuci::TensorView &t) const {
-        rows.put("tensor_view<").shaped(t.shape, t.element).put(", strides=[").dims(t.strides, ",").put(']');
-        rows.optional("ptr_attr", t.attribute).put('>');
-    }
-
-    void operator()(const tikomuci::PartitionView &t) const {
-        rows.put("partition_view<tile=(").dims(t.shape, "x").put("), tv=").type(t.view);
-        rows.put(", dim_map=[").dims(t.map, ",").put(']').optional("padding", t.padding).put('>');
-    }
-
-    void operator()(const tikomuci::GatherScatterView &t) const {
-        rows.put("gather_scatter_view<tile=(").dims(t.shape, "x").put("), tv=").type(t.view);
-        rows.put(", sparse_dim=", t.sparse).optional("padding", t.padding).put('>');
-    }
-
-    void operator()(const tikomuci::StridedView &t) const {
-        rows.put("strided_view<tile=(").dims(t.shape, "x").put("), traversal_strides=[").dims(t.strides, ",");
-        rows.put("], tv=").type(t.view).put(", dim_map=[").dims(t.map, ",").put(']');
-        rows.optional("padding", t.padding).put('>');
-    }
-
-    void operator()(const tikomuci::FuncType &t) const {
-        rows.put('(').types(t.inputs).put(") -> (").types(t.results).put(')');
-    }
-};
-
-void put_row(Rows &rows, const tikomuci::Type &type) { std::visit(Described{rows, type.tag}, type.kind); }
-
-// The inputs and results of a function, if they are not too many; else the number of its type.
-void put_signature(Rows &rows, std::uint64_t i) {
-    const auto type = rows.sheet().type(i);
-    const auto *const function = type ? std::get_if<tikomuci::FuncType>(&type->kind) : nullptr;
-    if (function != nullptr && function->inputs.size() + function->results.size() <= LONGEST) {
-        put_row(rows, *type);
-    } else {
-        rows.type(i);
-    }
-}
 
 void put_row(Rows &rows, const tikomuci::Global &g) {
     rows.string(g.name).put(" : ").type(g.type).put(" = constant ", g.constant, ", align ", g.alignment);
@@ -165,8 +88,7 @@ void put_row(Rows &rows, const tikomuci::Global &g) {
 }
 
 void put_row(Rows &rows, const tikomuci::Function &f) {
-    rows.put(f.is_kernel() ? "entry " : "func ").string(f.name).put(" : ");
-    put_signature(rows, f.signature);
+    rows.put(f.is_kernel() ? "entry " : "func ").string(f.name).put(" : ").type(f.signature);
     rows.put(f.is_private() ? ", private" : ", public", ", location ", f.location, ", body of ").run(f.body);
 }
 
@@ -240,7 +162,7 @@ void put_rows(Sink &out, const Sheet &sheet, std::uint64_t constants_at) {
         rows.put("\nproduced by ").string(*producer).put('\n');
     }
     put_table(rows, "strings", sheet.strings(), [&](Bytes string) { rows.put(Quoted{string}); });
-    put_table(rows, "types", sheet.types(), put);
+    put_table(rows, "types", sheet.types(), [&, type = std::uint64_t{0}](const auto &) mutable { rows.type(type++); });
     put_table(rows, "constants", sheet.constants(),
               [&](Bytes constant) { rows.run(constant, std::exchange(constants_at, constants_at + constant.size())); });
     put_table(rows, "globals", sheet.globals(), put);

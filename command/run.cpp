@@ -1,10 +1,12 @@
 #include "run.hpp"
 
 #include <algorithm>
+#include <array>
 #include <utility>
 
 #include "caches.hpp"
 #include "container.hpp"
+#include "escape.hpp"
 #include "input.hpp"
 #include "object.hpp"
 #include "session.hpp"
@@ -20,8 +22,9 @@ Status refused(Session &session, const std::string &name, tikomuci::Outcome outc
     if (session.call.json) {
         object::put_refusal(session.out, name, outcome);
     } else {
-        // Where standard output gets the bytes of a part, a verdict would be taken for them.
-        text::put_verdict(session.call.out == "-" ? session.errors : session.out, name, outcome);
+        // Where standard output gets the bytes of a part, or a text alone, a verdict would be taken for them.
+        const bool taken = session.call.out == "-" || session.call.verb == Verb::Type;
+        text::put_verdict(taken ? session.errors : session.out, name, outcome);
     }
     return Status::Refused;
 }
@@ -110,12 +113,37 @@ Status write_part(Session &session, const std::string &name) {
     return Status::Accepted;
 }
 
+Status print_type(Session &session, const std::string &name) {
+    const std::uint64_t number = session.call.number;
+    const File file = read_file(name, session.progress);
+    session.progress.now("judging");
+    const auto tables = tables_of(file);
+    if (!tables) {
+        return refused(session, name, tables.outcome());
+    }
+    std::array<std::uint8_t, tikomuci::TYPE_TEXT_BYTES> room{};
+    const auto size = tables->sheet().type_text(number, room);
+    if (!size) {
+        return refused(session, name, size.outcome());
+    }
+    session.progress.now_printing();
+    const std::string_view text = text_of_bytes(Bytes(room).first(*size));
+    if (session.call.json) {
+        object::put_type(session.out, name, number, text);
+    } else {
+        session.out << text << '\n';
+    }
+    return Status::Accepted;
+}
+
 Status done(Session &session, const std::string &name) {
     switch (session.call.verb) {
         case Verb::Show:
             return show(session, name);
         case Verb::Check:
             return check(session, name);
+        case Verb::Type:
+            return print_type(session, name);
         default:
             return write_part(session, name);
     }

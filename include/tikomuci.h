@@ -414,6 +414,30 @@ TIKOMUCI_CALL tikomuci_answer tikomuci_write(const uint8_t *sheet, size_t sheet_
                                              size_t pool_len, uint8_t *out, size_t out_len) TIKOMUCI_NOEXCEPT;
 
 /*
+ * The text of a type, as the Rust's dump of a file has it: `tile<2x4xf32>`, `(f32, ?) -> ()`; FORMAT.md has all kinds.
+ * Rows are counted from 0, and a number in a row that is no earlier row's is put as `?`. `first` is the length of the
+ * text in bytes, `second` is 0; the text stands at the output's begin, without a zero behind it, and the bytes behind
+ * it stay. The first refusal in this order counts, always at stage 10: 12 for a sheet that is not whole words or not
+ * well-formed, where no pool is lent; 14 for a number that no type has; 11 for a text that has no room. A refused call
+ * changes nothing. A sheet may have any length.
+ *
+ * What it costs: the whole sheet is judged, and each name that is put is found by a walk over the rows before it, in
+ * each of two passes, since the text is measured before it is put. A pass stops as soon as the room is used up, so that
+ * a call is bounded by the output and the rows, and not by the text: of thirteen function types that each name the one
+ * before eight times, the last has a text of more than 2^39 bytes, and is refused with 11 at once.
+ *
+ * What it takes of the stack: for each type inside another it calls itself, and puts a byte or more before, so that it
+ * never goes deeper than the output has bytes. TIKOMUCI_TYPE_TEXT_STACK is how many bytes of stack suffice for an
+ * output of `out_len` bytes, whatever the sheet says.
+ */
+#define TIKOMUCI_TYPE_TEXT_STACK_BASE 16384
+#define TIKOMUCI_TYPE_TEXT_STACK_LEVEL 256
+#define TIKOMUCI_TYPE_TEXT_STACK(out_len) \
+    (TIKOMUCI_TYPE_TEXT_STACK_BASE + TIKOMUCI_TYPE_TEXT_STACK_LEVEL * (size_t)(out_len))
+TIKOMUCI_CALL tikomuci_answer tikomuci_type_text(const uint8_t *sheet, size_t sheet_len, uint64_t row, uint8_t *out,
+                                                 size_t out_len) TIKOMUCI_NOEXCEPT;
+
+/*
  * The shared profile cache: a file for each instance, in slots of one lent buffer, with a lent owner table beside it.
  * The calls tikomuci_cache_* are for 16 slots, and tikomuci_session_* are the same three for the 64 of a session.
  *

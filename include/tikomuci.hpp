@@ -481,6 +481,18 @@ inline Got<Bytes> view_of(View view, Bytes file, std::uint64_t number) noexcept 
         tikomuci_write(words.data(), words.size(), bytes.data(), bytes.size(), file.data(), file.size()));
 }
 
+/// Puts the text of a type at the begin of a lent output: how many bytes it has; Absent if there is no such row, Full
+/// if there is no room, Overlap if the spans overlap. The sheet is judged as a whole each time, but for its pool. The
+/// stack that it takes grows with the output: TIKOMUCI_TYPE_TEXT_STACK.
+[[nodiscard]] inline Got<std::uint64_t> type_text(Input sheet, std::uint64_t row, Store out) noexcept {
+    const Bytes words = sheet.bytes();
+    const Output text = out.bytes();
+    if (overlap(words, text)) {
+        return OVERLAPPING;
+    }
+    return detail::first_of(tikomuci_type_text(words.data(), words.size(), row, text.data(), text.size()));
+}
+
 /// The 8-bit code nearest to a value, ties to the even code.
 [[nodiscard]] inline std::uint8_t f8e4m3fn(double value) noexcept {
     return tikomuci_f8e4m3fn(detail::bits_of<std::uint64_t>(value));

@@ -2,11 +2,13 @@
 //
 // `read` reads a file into stores of its own, a Tables; `Sheet::open` takes stores that a host lends. A Sheet has a
 // range of rows for each table, and answers a row by its number. A number that no row has gets nothing, and whatever
-// the words say, no accessor reaches outside the sheet or the pool. Nothing here throws, and only `read` allocates.
+// the words say, no accessor reaches outside the sheet or the pool. Nothing here throws, and only `read` and a TypeText
+// allocate.
 //
 // What it costs: a step of a range costs the same wherever it is made, but for a type, which costs a step for each of
 // its fields. A row by its number is found at once on the sheet of a Tables. On a sheet over lent stores globals and
-// attributes are, and the others by a walk from the first row, until the host lends a store for an index.
+// attributes are, and the others by a walk from the first row, until the host lends a store for an index. The text of a
+// type costs as much as judging the whole sheet, and walks of its own.
 #ifndef TIKOMUCI_TABLES_HPP
 #define TIKOMUCI_TABLES_HPP
 
@@ -15,6 +17,7 @@
 #include <cstddef>
 #include <cstdint>
 #include <iterator>
+#include <limits>
 #include <memory>
 #include <new>
 #include <optional>
@@ -616,6 +619,52 @@ class Rows {
     detail::Index index_;
 };
 
+/// How many bytes the text of a type may have, if the host does not say it.
+inline constexpr std::size_t TYPE_TEXT_BYTES = 4096;
+
+class TypeText;
+[[nodiscard]] Got<TypeText> type_text(Input sheet, std::uint64_t row, std::size_t most = TYPE_TEXT_BYTES) noexcept;
+
+/// The text of a type, in memory of its own.
+class TypeText {
+  public:
+    /// No text, as that is that was moved from.
+    TypeText() = default;
+
+    /// The data() ends with a zero.
+    [[nodiscard]] std::string_view view() const &noexcept {
+        return text_ ? std::string_view(text_.get(), size_) : std::string_view("");
+    }
+    std::string_view view() const &&TIKOMUCI_DELETED("keep the text in a variable: the view is a part of it");
+
+  private:
+    friend Got<TypeText> type_text(Input sheet, std::uint64_t row, std::size_t most) noexcept;
+
+    std::unique_ptr<char[]> text_;
+    std::size_t size_ = 0;
+};
+
+/// The text of a type, as the call over spans has it, if it has `most` bytes or fewer; Full if it has more, and Memory
+/// if there is none for so many. The stack that it takes grows with `most`: TIKOMUCI_TYPE_TEXT_STACK.
+[[nodiscard]] inline Got<TypeText> type_text(Input sheet, std::uint64_t row, std::size_t most) noexcept {
+    TypeText text;
+    // There is no larger memory, and then there is a byte for the zero too.
+    if (most < std::numeric_limits<std::ptrdiff_t>::max()) {
+        text.text_.reset(new (std::nothrow) char[most + 1]);
+    }
+    if (!text.text_) {
+        return Outcome{Refusal::Memory, Stage::Call};
+    }
+    const Got<std::uint64_t> size =
+        type_text(sheet, row, Store(reinterpret_cast<std::uint8_t *>(text.text_.get()), most));
+    if (!size) {
+        return size.outcome();
+    }
+    text.size_ = *size;
+    text.text_[text.size_] = 0;
+    return text;
+}
+
 /// The rows of a sheet and a pool, which have to outlive it. It cannot be copied, so that the sheet of a Tables stays
 /// with its stores.
 class Sheet {
@@ -696,6 +745,14 @@ class Sheet {
         return attributes().at(number);
     }
     [[nodiscard]] std::optional<Words> list(std::uint64_t number) const noexcept { return lists().at(number); }
+
+    /// The text of a type, as `type_text` has it for this sheet.
+    [[nodiscard]] Got<std::uint64_t> type_text(std::uint64_t number, Store out) const noexcept {
+        return tikomuci::type_text(bytes(), number, out);
+    }
+    [[nodiscard]] Got<TypeText> type_text(std::uint64_t number, std::size_t most = TYPE_TEXT_BYTES) const noexcept {
+        return tikomuci::type_text(bytes(), number, most);
+    }
 
   private:
     enum Name : std::size_t { STRINGS, TYPES, CONSTANTS, GLOBALS, FUNCTIONS, ATTRIBUTES, LISTS, TABLES };

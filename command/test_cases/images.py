@@ -94,7 +94,7 @@ def every(flags=2):
 EVERY_ROWS = {
     "producer": 1,
     "strings": ["k", "main"],
-    "types": [{"kind": "i32"}, {"kind": "func", "inputs": [0], "results": []}],
+    "types": [{"kind": "i32", "text": "i32"}, {"kind": "func", "inputs": [0], "results": [], "text": "(i32) -> ()"}],
     "constants": [{"offset": 80, **checksum(b"\xde\xad\xbe")}],
     "globals": [{"name": 0, "type": 0, "constant": 0, "alignment": 16, "visibility": 1, "is_constant": True}],
     "functions": [{"name": 1, "signature": 1, "flags": 2, "location": 1, "body": checksum(b"\x0a\x0b\x0c\x0d")}],
@@ -166,21 +166,36 @@ def every_kind():
     return Image().add(TYPE, table([bytes.fromhex(entry) for entry in types])).add(DEBUG, debug).end()
 
 
+KINDS = [
+    {"kind": "i32"},
+    {"kind": "ptr", "flags": 1, "element": 0, "attribute": 7},
+    {"kind": "ptr", "flags": 0, "element": 0, "attribute": None},
+    {"kind": "tile", "element": 0, "shape": [4, -1]},
+    {"kind": "tensor_view", "flags": 1, "element": 0, "shape": [8], "strides": [-(2**63), 1], "attribute": 3},
+    {"kind": "partition_view", "flags": 1, "shape": [2, -3], "view": 4, "map": [0], "padding": 9},
+    {"kind": "gather_scatter_view", "flags": 0, "shape": [5], "view": 4, "sparse": 1, "padding": None},
+    {"kind": "strided_view", "flags": 1, "shape": [6], "strides": [7], "view": 4, "map": [-8], "padding": 2},
+    {"kind": "func", "inputs": [0, 1], "results": [3]},
+    {"kind": "f8e5m3fnu"},
+    {"kind": "token"},
+]
+VIEW_TEXT = "tensor_view<8xi32, strides=[?,1], ptr_attr=3>"
+KINDS_TEXTS = [
+    "i32",
+    "ptr<i32, ptr_attr=7>",
+    "ptr<i32>",
+    "tile<4x-1xi32>",
+    VIEW_TEXT,
+    f"partition_view<tile=(2x-3), tv={VIEW_TEXT}, padding=9>",
+    f"gather_scatter_view<tile=(5), tv={VIEW_TEXT}, sparse_dim=1>",
+    f"strided_view<tile=(6), traversal_strides=[7], tv={VIEW_TEXT}, dim_map=[-8], padding=2>",
+    "(i32, ptr<i32, ptr_attr=7>) -> (tile<4x-1xi32>)",
+    "f8e5m3fnu",
+    "token",
+]
 KINDS_ROWS = {
     **NO_ROWS,
-    "types": [
-        {"kind": "i32"},
-        {"kind": "ptr", "flags": 1, "element": 0, "attribute": 7},
-        {"kind": "ptr", "flags": 0, "element": 0, "attribute": None},
-        {"kind": "tile", "element": 0, "shape": [4, -1]},
-        {"kind": "tensor_view", "flags": 1, "element": 0, "shape": [8], "strides": [-(2**63), 1], "attribute": 3},
-        {"kind": "partition_view", "flags": 1, "shape": [2, -3], "view": 4, "map": [0], "padding": 9},
-        {"kind": "gather_scatter_view", "flags": 0, "shape": [5], "view": 4, "sparse": 1, "padding": None},
-        {"kind": "strided_view", "flags": 1, "shape": [6], "strides": [7], "view": 4, "map": [-8], "padding": 2},
-        {"kind": "func", "inputs": [0, 1], "results": [3]},
-        {"kind": "f8e5m3fnu"},
-        {"kind": "token"},
-    ],
+    "types": [{**kind, "text": text} for kind, text in zip(KINDS, KINDS_TEXTS)],
     "attributes": [
         {"kind": "Unknown", "fields": []},
         {"kind": "DICompileUnit", "fields": [1]},
@@ -191,20 +206,9 @@ KINDS_ROWS = {
         {"kind": "CallSite", "fields": [1, 2]},
     ],
 }
-KINDS_ROWS_TEXT = """
+KINDS_ROWS_TEXT = f"""
 types (11)
-  [0] i32
-  [1] ptr<i32, ptr_attr=7>
-  [2] ptr<i32>
-  [3] tile<4x-1xi32>
-  [4] tensor_view<8xi32, strides=[?,1], ptr_attr=3>
-  [5] partition_view<tile=(2x-3), tv=#4, dim_map=[0], padding=9>
-  [6] gather_scatter_view<tile=(5), tv=#4, sparse_dim=1>
-  [7] strided_view<tile=(6), traversal_strides=[7], tv=#4, dim_map=[-8], padding=2>
-  [8] (i32, #1) -> (#3)
-  [9] f8e5m3fnu
-  [10] token
-
+{"".join(f"  [{row}] {text}" + chr(10) for row, text in enumerate(KINDS_TEXTS))}
 debug attributes (7)
   [1] Unknown
   [2] DICompileUnit(file=di[1])

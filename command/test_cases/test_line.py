@@ -6,7 +6,7 @@ from harness import MISUSED, ROOT, Case
 from images import every
 
 SEE = "; see tikomuci --help\n"
-VERBS = ["show", "check", "string", "constant", "body", "section", "cache", "cache-demo"]
+VERBS = ["show", "check", "string", "constant", "body", "section", "type", "cache", "cache-demo"]
 
 
 class Line(Case):
@@ -42,6 +42,13 @@ class Line(Case):
         self.misused("section takes FILE, SECTION and -o OUT", "section", "every", "func")
         for section in ("Funcs", "", "-2", "end"):
             self.misused(f"{section} is no section", "section", "-o", "out", "--", "every", section)
+
+    def test_types(self):
+        self.misused("type takes no -o", "type", "every", "0", "-o", "out")
+        for words in (["every"], ["every", "0", "1"], []):
+            self.misused("type takes FILE and N", "type", *words)
+        for number in ("x", "", "-1", "18446744073709551616"):
+            self.misused(f"{number} is no number of a row", "type", "--", "every", number)
 
     def test_options(self):
         self.misused("there is no option --all", "show", "every", "--all")

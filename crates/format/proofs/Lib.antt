@@ -46,3 +46,6 @@ pub mod FullCase
 pub mod LawsBelow
 pub mod LawsRefusals
 pub mod Refused
+pub mod ExampleNames
+pub mod LawsKinds
+pub mod LawsNames

@@ -9,6 +9,7 @@ pub mod Header
 pub mod Sections
 pub mod Strings
 pub mod Types
+pub mod Kinds
 pub mod Globals
 pub mod Functions
 pub mod Debug
@@ -25,4 +26,5 @@ pub mod Views
 pub mod Stores
 pub mod SameToEnd
 pub mod Write
+pub mod Names
 pub mod Refusals

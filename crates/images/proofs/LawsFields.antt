@@ -7,12 +7,14 @@ use native.Mathlib.Omega.{arith}
 use mathlib.Core.List.{List, [], _∷_, _++_}
 use lib.ListN.{length, getD, length-append}
 use Rattle.sheet.specs.Store.{wordsIn}
-use Rattle.images.specs.Put.{Puts, Wrote, Lies, Lent}
+use Rattle.sheet.specs.Lies.{Lies}
+use Rattle.images.specs.Put.{Puts, Wrote, Lent}
 use Rattle.images.specs.Fields.{bytesAs, manyAs, Ready, Moved, Copied, NumberCopied, NumbersCopied, ListCopied}
 use Rattle.images.specs.declared.fields.Number.{Number}
 use Rattle.images.specs.declared.fields.Number.the-variants.{Varint}
 use Rattle.images.specs.declared.fields.Pen.{Pen}
-use Rattle.images.proofs.LawsPut.{puts-then, puts-none, wrote-nil, lies-front, lies-back, lies-first}
+use Rattle.sheet.proofs.LawsLies.{lies-front, lies-back, lies-first}
+use Rattle.images.proofs.LawsPut.{puts-then, puts-none, wrote-nil}
 
 lent-front : {pool : List ℕ} {i : ℕ} {out : List ℕ} (a b : List ℕ) → Lent pool i (a ++ b) out → Lent pool i a out
 lent-front a b (inl h) = inl (lies-front a b h)

@@ -25,16 +25,10 @@ use Rattle.judge.specs.declared.Judged.{Judged}
 use Rattle.judge.specs.declared.SheetJudged.{SheetJudged}
 use Rattle.judge.specs.declared.SheetJudged.the-variants as sheet
 use Rattle.judge.specs.Judge.{judgedBytes, notSound, judgedRead, summary}
-use Rattle.judge.proofs.LawsPlaced.{judged-words, Passes, passed-of}
+use Rattle.judge.proofs.LawsPlaced.{stopped-none, judged-words, Passes, passed-of}
 use Rattle.images.specs.Written.{imageSize, lengthOf, inRoom, withImage, Told, ImageTold, JudgedWritten}
 use Rattle.images.specs.declared.Imaged.{Imaged}
 use Rattle.images.specs.declared.Imaged.the-variants as told
-
--- What is refused has no frame.
-stopped-none : (o : Option Frame) → notSound ≡ summary o → o ≡ none
-unfolding summary
-stopped-none none e = refl
-stopped-none (some r) e = absurd (let z : _≡_ {A = ℕ} 0 1 = cc in omega arith)
 
 -- The tables that a judged sheet and a pool stand for.
 module _ (s pool : List ℕ) (short : length s < 2 ^ 63) {j : Judged} (p : Passes s j) (n : length pool ≡ poolLength (p .frame))

@@ -22,7 +22,8 @@ use Rattle.format.specs.Write.{Writing, writes, refuses, starts32?, imaged}
 use Rattle.format.proofs.LawsStarts.{starts-fit}
 use Rattle.format.proofs.Writes.{imaged-inv}
 use Rattle.judge.specs.declared.Judged.{Judged}
-use Rattle.images.specs.Put.{Lies}
+use Rattle.sheet.specs.Lies.{Lies}
+use Rattle.sheet.proofs.LawsLies.{whole-lies}
 use Rattle.images.specs.Images.{ImagePut}
 use Rattle.images.specs.Starts.{FitTold}
 use Rattle.images.specs.Written.{notWritten, imageSize, lengthOf, inRoom, withImage, Told, ImageTold, JudgedWritten}
@@ -140,9 +141,6 @@ written-small {out = out} {kept = kept} {size = size} x o e g =
           let l : length out < size = subst (λ z. length z < size) o g in
           let p = small-as size out (imaged (some t)) (sym (ap imageSize e) ∙ x .each t h) l in (p .0, o ∙ p .1);
     }
-
-whole-lies : (l : List ℕ) → Lies l 0 l
-whole-lies l = record { front = []; behind = []; whole = sym (append-nil l); place = refl }
 
 -- .. and else the image is put.
 pub written-fine : {s pool out kept out' : List ℕ} {j : Judged} {size next : ℕ} {r : Imaged} → ImageTold s j r → kept ≡ out →

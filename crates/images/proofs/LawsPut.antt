@@ -1,4 +1,4 @@
--- Bytes that are put one after the other, and parts that lie one behind the other. Assumes nothing.
+-- Bytes that are put one after the other, and runs of the pool among them. Assumes nothing.
 use mathlib.Core.Path.{_≡_, refl, sym, ap, ap₂, _∙_, subst}
 use mathlib.Core.Logic.{_⊎_, inl, inr}
 use Prim.Native.Nat.{ℕ, _+_, _-_, _%_, _^_, _≤_, _<_}
@@ -10,8 +10,10 @@ use lib.Seq.{take-append-seam, drop-at, getD-at}
 use Rattle.exact.specs.Fixed.{bytesOf}
 use Rattle.enums.specs.Container.{P}
 use Rattle.encoding.specs.Out.{put}
+use Rattle.sheet.proofs.LawsLies.{lies-inside, lies-taken}
 use Rattle.encoding.proofs.LawsOut.{put-nil, put-append, length-put}
-use Rattle.images.specs.Put.{Puts, Wrote, Lies, Lent, RunPut}
+use Rattle.sheet.specs.Lies.{Lies}
+use Rattle.images.specs.Put.{Puts, Wrote, Lent, RunPut}
 
 -- A list of no elements has nothing before its end.
 pub no-length : (l : List ℕ) → length l ≡ 0 → l ≡ []
@@ -98,40 +100,6 @@ wrote-run bs n at next out out' l o p =
           let e : next ≡ at + length bs = p ∙ mod-eq-of-lt k ∙ ap (λ m. at + m) (sym l) in
           rw (o, e) (puts-run bs at out);
     }
-
--- A part is a part's front and, behind it, the rest.
-pub lies-front : {l : List ℕ} {i : ℕ} (a b : List ℕ) → Lies l i (a ++ b) → Lies l i a
-lies-front a b h =
-    record {
-      front = h .front;
-      behind = b ++ h .behind;
-      whole = h .whole ∙ ap (λ r. h .front ++ r) (append-assoc a b (h .behind));
-      place = h .place;
-    }
-
-pub lies-back : {l : List ℕ} {i : ℕ} (a b : List ℕ) → Lies l i (a ++ b) → Lies l (i + length a) b
-lies-back a b h =
-    record {
-      front = h .front ++ a;
-      behind = h .behind;
-      whole =
-          h .whole ∙ ap (λ r. h .front ++ r) (append-assoc a b (h .behind)) ∙ sym (append-assoc (h .front) a (b ++ h .behind));
-      place = length-append (h .front) a ∙ ap (λ n. n + length a) (h .place);
-    }
-
--- The first of a part.
-pub lies-first : {l : List ℕ} {i : ℕ} (v : ℕ) (vs : List ℕ) → Lies l i (v ∷ vs) → getD l i 0 ≡ v
-lies-first {l} {i} v vs h = rw (h .whole) (getD-at (h .front) v (vs ++ h .behind) 0 i (h .place))
-
--- A part is inside.
-pub lies-inside : {l : List ℕ} {i : ℕ} (part : List ℕ) → Lies l i part → i + length part ≤ length l
-lies-inside {l} {i} part h =
-    let e = ap length (h .whole) ∙ length-append (h .front) (part ++ h .behind) in
-    omega (arith, h .place, length-append part (h .behind))
-
-pub lies-taken : {l : List ℕ} {i : ℕ} (part : List ℕ) → Lies l i part → take (length part) (drop i l) ≡ part
-lies-taken {l} {i} part h =
-    rw (h .whole, drop-at (h .front) (part ++ h .behind) i (h .place)) (take-append-seam part (h .behind))
 
 -- An output of no bytes takes no run.
 pub put-none : (at : ℕ) (bs : List ℕ) → put [] at bs ≡ []

@@ -24,7 +24,7 @@ use Rattle.images.specs.declared.fields.Number.the-variants.{Varint, Byt
 use Rattle.images.specs.declared.fields.Pen.{Pen}
 use Rattle.images.specs.declared.rows.Row.{Row}
 use Rattle.images.specs.declared.rows.Table.{Table}
-use Rattle.images.proofs.LawsPut.{lies-first, lies-inside}
+use Rattle.sheet.proofs.LawsLies.{lies-first, lies-inside}
 use Rattle.images.proofs.LawsFields.{copied-then, copied-nil, copied-knowing, copied-as}
 use Rattle.images.proofs.LawsTypes.{byte-as, many-varints}
 

@@ -10,25 +10,12 @@ use Rattle.format.specs.Tables.{TypeRow, Global, Function, Attribute, Tables}
 use Rattle.format.specs.Explains.{class}
 use Rattle.format.specs.Sheet.{Frame, functionRowOf, frameOf, lengthWords, typeWords, globalWords, functionWords, attributeWords, listWords, bodies, contents, producerWord, poolLength, wordsOf, sheetOf, poolOf}
 use Rattle.format.specs.Sound.{All, SoundFunction, Sound}
-use Rattle.images.specs.Put.{Lies}
+use Rattle.sheet.specs.Lies.{Lies}
 use Rattle.images.specs.Rows.{GoodRow, rowWords, rowRun, rowBytes, Placed}
 use Rattle.images.specs.declared.rows.Row.the-variants as row
 use Rattle.format.proofs.LawsPool.{pool-length}
-use Rattle.images.proofs.LawsPut.{lies-front, lies-back, lies-inside}
-
--- All the bodies stand behind the contents.
-bodies-lie : (r : Frame) → Lies (wordsOf r) 19 (join (map join (bodies r)))
-unfolding wordsOf bodies contents
-bodies-lie r =
-    record {
-      front =
-          r .version .major ∷ r .version .minor ∷ r .version .tag ∷ producerWord (r .producer) ∷ poolLength r ∷ contents 19 (bodies r);
-      behind = [];
-      whole =
-          ap (λ l. r .version .major ∷ r .version .minor ∷ r .version .tag ∷ producerWord (r .producer) ∷ poolLength r ∷ (contents 19 (bodies r) ++ l))
-          (sym (append-nil (join (map join (bodies r)))));
-      place = refl;
-    }
+use Rattle.judge.proofs.LawsBodies.{bodies-lie}
+use Rattle.sheet.proofs.LawsLies.{lies-front, lies-back, lies-inside}
 
 run-words : (xs : List (List ℕ)) → map lengthWords (map length xs) ≡ map (rowWords row.Run) xs
 unfolding rowWords

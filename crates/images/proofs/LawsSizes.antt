@@ -41,7 +41,7 @@ use Rattle.format.specs.Image.{
 use Rattle.images.specs.Rows.{RowOf, rowWords, rowRun, rowBytes, Placed}
 use Rattle.images.specs.declared.rows.Row.{Row}
 use Rattle.images.specs.declared.rows.Row.the-variants as row
-use Rattle.images.proofs.LawsPut.{lies-inside}
+use Rattle.sheet.proofs.LawsLies.{lies-inside}
 
 where-le : {Q : Type 0} (d : Dec Q) (bs : List ℕ) → length (onlyWhere d bs) ≤ length bs
 unfolding onlyWhere choose

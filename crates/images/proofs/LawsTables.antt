@@ -17,14 +17,16 @@ use Rattle.encoding.specs.Out.{flat}
 use Rattle.encoding.proofs.LawsArray.{length-flat}
 use Rattle.format.specs.Image.{paddedNumbers, offsetTable}
 use Rattle.sheet.specs.Store.{wordsIn}
-use Rattle.images.specs.Put.{Wrote, Lies}
+use Rattle.sheet.specs.Lies.{Lies}
+use Rattle.images.specs.Put.{Wrote}
 use Rattle.images.specs.Rows.{RowOf, GoodRow, rowWords, rowRun, rowBytes, RowCopied, Placed, RowsPut}
 use Rattle.images.specs.Tables.{countAndPadding, CountPut, ids, NextEntry, Starting, StartsPut, ListStartsPut, TablePut}
 use Rattle.images.specs.declared.fields.Pen.{Pen}
 use Rattle.images.specs.declared.rows.Row.{Row}
 use Rattle.images.specs.declared.rows.Row.the-variants as row
 use Rattle.images.specs.declared.rows.Table.{Table}
-use Rattle.images.proofs.LawsPut.{puts-then, wrote-then, wrote-nil, wrote-nowhere, lies-front, lies-back, lies-first}
+use Rattle.sheet.proofs.LawsLies.{lies-front, lies-back, lies-first}
+use Rattle.images.proofs.LawsPut.{puts-then, wrote-then, wrote-nil, wrote-nowhere}
 use Rattle.images.proofs.LawsFields.{copied-then, copied-put, copied-ready, copied-as}
 use Rattle.images.proofs.LawsRows.{placed-fits}
 

@@ -8,7 +8,6 @@ use native.Mathlib.Omega.{arith}
 use native.Mathlib.Decide.{ℕ-discrete}
 use mathlib.Core.List.{List, [], _∷_, _++_}
 use lib.ListN.{length, getD}
-use borrow.Author.Tests.{ne-eqb}
 use Rattle.exact.specs.Choice.{choose}
 use Rattle.exact.specs.Fixed.{bytesOf}
 use Rattle.exact.proofs.LawsChoice.{choose-yes, choose-no}
@@ -19,6 +18,8 @@ use Rattle.encoding.specs.Varint.{spelling}
 use Rattle.encoding.specs.Out.{flat, countedBytes}
 use Rattle.format.specs.Tables.{TypeRow, plain, pointer, tile, tensorView, partitionView, gatherScatterView, stridedView, function}
 use Rattle.format.specs.Types.{plainTags, among}
+use Rattle.format.specs.Kinds.{kindOf, a-plain}
+use Rattle.format.proofs.LawsKinds.{plain-kind}
 use Rattle.format.specs.Sheet.{countedWords, fieldWords, typeWords}
 use Rattle.format.specs.Sound.{SoundType}
 use Rattle.format.specs.Tests.{bit0?, since3?}
@@ -36,15 +37,13 @@ use Rattle.images.specs.Types.{
   GatherScatterViewCopied,
   StridedViewCopied,
   FunctionCopied,
-  a-plain,
-  kindOf,
   FieldsCopied,
   TypeCopied,
 }
 use Rattle.images.specs.declared.fields.Number.{Number}
 use Rattle.images.specs.declared.fields.Number.the-variants.{Varint, Byte, I32, I64, Absent}
 use Rattle.images.specs.declared.fields.Pen.{Pen}
-use Rattle.images.proofs.LawsPut.{lies-first}
+use Rattle.sheet.proofs.LawsLies.{lies-first}
 use Rattle.images.proofs.LawsFields.{copied-then, copied-knowing, copied-as, copied-put}
 
 where-bytes : {Q : Type 0} (d : Dec Q) (k : Number) (v : ℕ) → bytesAs (choose d k Absent) v ≡ onlyWhere d (bytesAs k v)
@@ -156,30 +155,6 @@ module _ {s : List ℕ} {p q : Pen} {out out' : List ℕ} where
             copied-as (sym (choose-yes (since3? c) _ _ e))
             (x .each pool flags shape view dims padding (elim k [ inl n ↦ absurd (n e) | inr l ↦ l ]));
       }
-
--- A tag that no arm names is plain ..
-pub kind-plain : (tag : ℕ) → ¬ (tag ≡ tagPointer) → ¬ (tag ≡ tagTile) → ¬ (tag ≡ tagTensorView) → ¬ (tag ≡ tagPartitionView) →
-    ¬ (tag ≡ tagFunc) → ¬ (tag ≡ tagGatherScatterView) → ¬ (tag ≡ tagStridedView) → kindOf tag ≡ a-plain
-unfolding kindOf
-kind-plain tag n1 n2 n3 n4 n5 n6 n7 =
-    rw (
-      ne-eqb tag tagPointer n1,
-      ne-eqb tag tagTile n2,
-      ne-eqb tag tagTensorView n3,
-      ne-eqb tag tagPartitionView n4,
-      ne-eqb tag tagFunc n5,
-      ne-eqb tag tagGatherScatterView n6,
-      ne-eqb tag tagStridedView n7,
-    )
-
--- .. and so is a scalar's or Token's.
-plain-kind : (tag : ℕ) → among tag plainTags ≡ true → kindOf tag ≡ a-plain
-plain-kind tag h =
-    kind-plain tag (not tagPointer refl) (not tagTile refl) (not tagTensorView refl) (not tagPartitionView refl) (not tagFunc refl)
-    (not tagGatherScatterView refl) (not tagStridedView refl)
-  where
-    not : (k : ℕ) → among k plainTags ≡ false → ¬ (tag ≡ k)
-    not k f e = false≢true (sym f ∙ ap (λ t. among t plainTags) (sym e) ∙ h)
 
 -- The tag was put and then the fields of its kind: an entry, whatever row it is.
 module _ (c : VersionClass) {s : List ℕ} {p q : Pen} (r : Pen) {out mid : List ℕ} (out' : List ℕ) {tag : ℕ} (e : tag ≡ getD (wordsIn s) (p .word) 0)

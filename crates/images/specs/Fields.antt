@@ -9,7 +9,8 @@ use Rattle.exact.specs.Tiling.{join}
 use Rattle.encoding.specs.Varint.{spelling}
 use Rattle.format.specs.Sheet.{countedWords}
 use Rattle.sheet.specs.Store.{wordsIn}
-use Rattle.images.specs.Put.{Puts, Lies, Lent}
+use Rattle.sheet.specs.Lies.{Lies}
+use Rattle.images.specs.Put.{Puts, Lent}
 use Rattle.images.specs.declared.fields.Number.{Number}
 use Rattle.images.specs.declared.fields.Number.the-variants.{Varint, Byte, I32, I64, Absent}
 use Rattle.images.specs.declared.fields.Pen.{Pen}

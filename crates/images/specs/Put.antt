@@ -6,6 +6,7 @@ use Prim.Native.Nat.{ℕ, _+_, _^_, _≤_, _<_}
 use mathlib.Core.List.{List, [], _++_}
 use lib.ListN.{length}
 use Rattle.encoding.specs.Out.{put}
+use Rattle.sheet.specs.Lies.{Lies}
 
 -- The bytes bs were put from a place on, where all of them have room; the next place is behind them in any case. An output
 -- keeps its length, so that one of no bytes has none afterwards.
@@ -17,13 +18,6 @@ pub record Puts (bs : List ℕ) (at : ℕ) (out out' : List ℕ) (next : ℕ) : 
 -- So it is as long as no place reaches 2^64.
 pub record Wrote (bs : List ℕ) (at : ℕ) (out out' : List ℕ) (next : ℕ) : Type 0 where
   pub puts : at + length bs < 2 ^ 64 → Puts bs at out out' next
-
--- From place i on the list has this part.
-pub record Lies (l : List ℕ) (i : ℕ) (part : List ℕ) : Type 0 where
-  pub front : List ℕ
-  pub behind : List ℕ
-  pub whole : l ≡ front ++ (part ++ behind)
-  pub place : length front ≡ i
 
 -- The pool has this run from byte i on. Where there is no output nobody looks: a call that measures is lent no pool.
 abbrev pub Lent : List ℕ → ℕ → List ℕ → List ℕ → Type 0

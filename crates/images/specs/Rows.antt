@@ -12,7 +12,7 @@ use Rattle.format.specs.Sheet.{functionRowOf, lengthWords, typeWords, globalWor
 use Rattle.format.specs.Sound.{All, SoundType, SoundGlobal, SoundFunction, SoundAttribute}
 use Rattle.format.specs.Image.{typeBytes, globalBytes, functionBytes, attributeBytes}
 use Rattle.sheet.specs.Store.{wordsIn}
-use Rattle.images.specs.Put.{Lies}
+use Rattle.sheet.specs.Lies.{Lies}
 use Rattle.images.specs.Fields.{Copied}
 use Rattle.images.specs.declared.fields.Pen.{Pen}
 use Rattle.images.specs.declared.rows.Row.{Row}

@@ -12,7 +12,8 @@ use Rattle.encoding.specs.Varint.{spelling}
 use Rattle.encoding.specs.Out.{flat}
 use Rattle.format.specs.Image.{offsetTable}
 use Rattle.sheet.specs.Store.{wordsIn}
-use Rattle.images.specs.Put.{Wrote, Lies}
+use Rattle.sheet.specs.Lies.{Lies}
+use Rattle.images.specs.Put.{Wrote}
 use Rattle.images.specs.Rows.{RowOf, GoodRow, rowWords, rowRun, rowBytes, Placed, RowsPut}
 use Rattle.images.specs.declared.fields.Pen.{Pen}
 use Rattle.images.specs.declared.rows.Row.{Row}

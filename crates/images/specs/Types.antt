@@ -4,17 +4,15 @@ use mathlib.Core.Path.{_≡_}
 use mathlib.Core.Logic.{_⊎_}
 use Prim.Native.Nat.{ℕ, _<_}
 use native.Mathlib.Decide.{ℕ-discrete}
-use mathlib.Core.Bool.{cond}
 use mathlib.Core.List.{List, [], _∷_, _++_}
-use lib.Dec.{eqb}
 use Rattle.enums.specs.declared.VersionClass.{VersionClass}
-use Rattle.enums.specs.Types.{tagPointer, tagTile, tagTensorView, tagPartitionView, tagFunc, tagGatherScatterView, tagStridedView}
 use Rattle.encoding.specs.Varint.{spelling}
 use Rattle.encoding.specs.Out.{countedBytes}
 use Rattle.format.specs.Tables.{TypeRow}
 use Rattle.format.specs.Sheet.{countedWords, typeWords}
 use Rattle.format.specs.Sound.{Fits, Since3, SoundType}
 use Rattle.format.specs.Tests.{since4?}
+use Rattle.format.specs.Kinds.{Kind, a-pointer, a-tile, a-tensor-view, a-partition-view, a-function, a-gather-scatter-view, a-strided-view, a-plain}
 use Rattle.format.specs.Image.{countedVarints, onlyWhere, optionalByte, partitionBytes, typeBytes}
 use Rattle.images.specs.Fields.{Copied}
 use Rattle.images.specs.declared.fields.Pen.{Pen}
@@ -70,26 +68,6 @@ pub record StridedViewCopied (s : List ℕ) (p : Pen) (out out' : List ℕ) (q :
 pub record FunctionCopied (s : List ℕ) (p : Pen) (out out' : List ℕ) (q : Pen) : Type 0 where
   pub each : (pool inputs results : List ℕ) →
       Copied (countedWords inputs ++ countedWords results) [] (countedVarints inputs ++ countedVarints results) s pool p out out' q
-
--- The kinds, by their tags; what has no fields is plain.
-pub data Kind : Type 0 where
-  a-pointer : Kind
-  a-tile : Kind
-  a-tensor-view : Kind
-  a-partition-view : Kind
-  a-function : Kind
-  a-gather-scatter-view : Kind
-  a-strided-view : Kind
-  a-plain : Kind
-
-unfoldable pub kindOf : ℕ → Kind
-kindOf tag =
-    cond (eqb tag tagPointer) a-pointer
-    (cond (eqb tag tagTile) a-tile
-    (cond (eqb tag tagTensorView) a-tensor-view
-    (cond (eqb tag tagPartitionView) a-partition-view
-    (cond (eqb tag tagFunc) a-function
-    (cond (eqb tag tagGatherScatterView) a-gather-scatter-view (cond (eqb tag tagStridedView) a-strided-view a-plain))))))
 
 -- The fields of a row of this kind were copied.
 unfoldable pub FieldsCopied : VersionClass → Kind → List ℕ → Pen → List ℕ → List ℕ → Pen → Type 0

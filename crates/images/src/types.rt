@@ -1,6 +1,7 @@
 // Type entries: a row of the sheet becomes a varint tag and the fields behind it, by kind and version class. The sheet
 // was judged, so a tag that no arm names is a scalar's or Token's, and has no fields.
-ghost use Rattle.images.specs.Types.{PointerCopied, TileCopied, TensorViewCopied, NewPartitionViewCopied, OldPartitionViewCopied, PartitionViewCopied, GatherScatterViewCopied, StridedViewCopied, FunctionCopied, kindOf, FieldsCopied, TypeCopied};
+ghost use Rattle.format.specs.Kinds.{kindOf};
+ghost use Rattle.images.specs.Types.{PointerCopied, TileCopied, TensorViewCopied, NewPartitionViewCopied, OldPartitionViewCopied, PartitionViewCopied, GatherScatterViewCopied, StridedViewCopied, FunctionCopied, FieldsCopied, TypeCopied};
 use crate::fields::Number;
 use crate::fields::Pen;
 use crate::fields::copy_list;

@@ -71,6 +71,12 @@ passed-of s j = go (judgedBytes s) refl
         let k : j ≡ record { class = classIn r; pool = poolLength r } = cc in
         record { frame = r; judged = e; class = ap (λ j. j .class) k; pool = ap (λ j. j .pool) k }
 
+-- What is refused has no frame.
+pub stopped-none : (o : Option Frame) → notSound ≡ summary o → o ≡ none
+unfolding summary
+stopped-none none e = refl
+stopped-none (some r) e = not-refused (sym e)
+
 -- The contents of tables from word n on: table k starts behind the words of those before it ..
 starts : (n : ℕ) (ts : List (List (List ℕ))) (k : ℕ) → k < length ts → getD (contents n ts) (2 * k) 0 ≡ n + length (join (map join (take k ts)))
 unfolding contents

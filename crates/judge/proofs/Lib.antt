@@ -7,3 +7,4 @@ pub mod LawsTables
 pub mod LawsTests
 pub mod LawsThru
 pub mod LawsTypes
+pub mod LawsBodies

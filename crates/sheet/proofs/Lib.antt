@@ -1,3 +1,4 @@
 pub mod LawsStore
 pub mod LawsWords
 pub mod LawsBlocks
+pub mod LawsLies

@@ -11,6 +11,7 @@ use encoding::Written;
 use enums::Refusal;
 use enums::Stage;
 use images::Imaged;
+use names::Named;
 use reading::ByteRead;
 use reading::BytesRead;
 use reading::I32Read;
@@ -48,7 +49,8 @@ ghost use Rattle.tikomuci.specs.Boundary.{abi, accepted, refusedAs, Puts
 ghost use Rattle.tikomuci.specs.Views.{view, SectionViewed, RowViewed};
 ghost use Rattle.tikomuci.specs.Files.{needed, Measured, FileDone};
 ghost use Rattle.images.specs.Written.{imageSize};
-ghost use Rattle.tikomuci.specs.Sheets.{size, SheetWritten, SheetImaged};
+ghost use Rattle.names.specs.Names.{nameRead};
+ghost use Rattle.tikomuci.specs.Sheets.{size, SheetWritten, SheetImaged, TypeNamed};
 ghost use Rattle.cache.specs.Calls.{slotRead};
 ghost use Rattle.tikomuci.specs.Caches.{cacheSlots, sessionSlots, slot, CachePut, CacheFetched, CacheDropped};
 
@@ -744,6 +746,24 @@ pub extern "C" fn tikomuci_write(sheet: &[u8], pool: &[u8], out: &mut [u8]) -> A
     ensures { λ r. ⌜ SheetWritten (now (sheet .entry)) (now (pool .entry)) (now (out .entry)) (now (out .exit)) r ⌝ }
 {
     sized(writer::write(sheet, pool, out))
+}
+
+// How long a name is.
+fn lettered(name: Named) -> Answer
+    ensures { λ a. ⌜ a ≡ size (nameRead name) ⌝ }
+{
+    match name {
+        Named::Bytes(bytes) => Answer::accept(bytes as u64, 0),
+        Named::Refused(no) => Answer::refuse(no),
+    }
+}
+
+// The name of a type row of a sheet, as text: `first` counts its bytes.
+#[no_mangle]
+pub extern "C" fn tikomuci_type_text(sheet: &[u8], row: u64, out: &mut [u8]) -> Answer
+    ensures { λ r. ⌜ TypeNamed (now (sheet .entry)) row (now (out .entry)) (now (out .exit)) r ⌝ }
+{
+    lettered(names::type_text(sheet, row, out))
 }
 
 // The slot of a call of the cache.

@@ -20,6 +20,9 @@ namespace {
 using tikomuci::Bytes;
 using tikomuci::Sheet;
 
+// How many bytes of a type the desk's screen has room for.
+constexpr std::size_t LONGEST_TYPE = 60;
+
 File load(const std::string &path) {
     std::ifstream stream(path, std::ios::binary);
     if (!stream) {
@@ -49,23 +52,14 @@ std::string name(const Sheet &sheet, std::uint64_t i) {
     return text;
 }
 
-std::string kind(const Sheet &sheet, std::uint64_t i) {
-    const auto row = sheet.type(i);
-    return row ? std::string(tikomuci::type_name(row->tag)) : "(no type " + std::to_string(i) + ")";
-}
-
-// A type by its kind; of a tile, its shape and the kind of its elements too.
+// A type as a ticket has it. A file may name a type that is not there, or one whose text nobody could read.
 std::string type(const Sheet &sheet, std::uint64_t i) {
-    const auto row = sheet.type(i);
-    const auto *const tile = row ? std::get_if<tikomuci::Tile>(&row->kind) : nullptr;
-    if (tile == nullptr) {
-        return kind(sheet, i);
+    const auto text = sheet.type_text(i, LONGEST_TYPE);
+    if (text) {
+        return std::string(text->view());
     }
-    std::string text = "tile of ";
-    for (const std::int64_t extent : tile->shape) {
-        text += std::to_string(extent) + " x ";
-    }
-    return text + kind(sheet, tile->element);
+    const bool is_long = text.outcome().refusal == tikomuci::Refusal::Full;
+    return (is_long ? "(long type " : "(no type ") + std::to_string(i) + ")";
 }
 
 void show_functions(const Sheet &sheet) {
@@ -85,7 +79,7 @@ void show_globals(const Sheet &sheet) {
     for (const tikomuci::Global &row : sheet.globals()) {
         const auto data = sheet.constant(row.constant);  // a std::optional: empty for a number that no row has
         std::cout << std::setw(8) << number++ << std::left << "  " << std::setw(10) << row.constant << std::setw(8)
-                  << (data ? std::to_string(data->size()) : "none") << std::setw(18) << type(sheet, row.type)
+                  << (data ? std::to_string(data->size()) : "none") << std::setw(16) << type(sheet, row.type) << "  "
                   << name(sheet, row.name) << std::right << "\n";
     }
 }

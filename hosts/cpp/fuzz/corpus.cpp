@@ -81,6 +81,22 @@ Builder views(std::uint8_t minor) {
     return tables;
 }
 
+// Types inside types: one of each kind, what is not there, and one whose text is far longer than all others.
+Builder nested() {
+    Builder tables = made(4);
+    const std::uint64_t i1 = tables.scalar(TypeTag::I1);
+    const std::uint64_t pointer = tables.pointer(tables.tile(i1, {2, 4}), 1);
+    const std::uint64_t view = tables.tensor_view(pointer, {std::numeric_limits<std::int64_t>::min(), 4}, {4, 1});
+    tables.partition_view({8, 8}, view, {0, 1}, 1);
+    tables.gather_scatter_view({8}, view, 0);
+    tables.strided_view({8}, {-1}, view, {0});
+    std::uint64_t inner = tables.func({pointer, FAR}, {view});
+    for (int level = 0; level < 6; ++level) {
+        inner = tables.func({inner, inner, inner, inner}, {inner});
+    }
+    return tables;
+}
+
 Builder constants() {
     Builder tables = made(4);
     tables.constant(Wire{0xDE, 0xAD, 0xBE});
@@ -148,7 +164,7 @@ std::vector<Seed> seeds() {
         {"nothing", made(4)},         {"strings", strings()},     {"producer", named()},
         {"scalars", scalars()},       {"constants", constants()}, {"globals-13.2", globals(2)},
         {"globals-13.3", globals(3)}, {"functions", functions()}, {"attributes", attributes()},
-        {"lists", lists()},           {"every", every_row()},
+        {"lists", lists()},           {"every", every_row()},     {"nested", nested()},
     };
     for (const std::uint8_t minor : {std::uint8_t{1}, std::uint8_t{3}, std::uint8_t{4}}) {
         seeds.push_back({"pointers-13." + std::to_string(minor), pointers(minor)});
@@ -278,7 +294,7 @@ void save_all(const std::filesystem::path &folder) {
     }
     // A sheet's version is a word like any other, which the fuzzer changes: one sheet for each kind of row is enough.
     for (const auto &[name, tables] :
-         {Seed{"every", every_row()}, Seed{"pointers", pointers(4)}, Seed{"views", views(2)},
+         {Seed{"every", every_row()}, Seed{"pointers", pointers(4)}, Seed{"views", views(2)}, Seed{"nested", nested()},
           Seed{"globals", globals(3)}, Seed{"functions", functions()}, Seed{"attributes", attributes()},
           Seed{"lists", lists()}}) {
         save(sheets / name, handed(1, tables.sheet(), tables.pool()));

@@ -1,9 +1,11 @@
-// A fuzz target: any words and bytes as a handed sheet and its pool, through image and write, and as rows; and what was
-// written, through measure and read.
+// A fuzz target: any words and bytes as a handed sheet and its pool, through image and write, as rows, and through the
+// texts of types; and what was written, through measure and read.
 
 #include <initializer_list>
 #include <optional>
+#include <string>
 
+#include "../tests/type_model.hpp"
 #include "../tests/walk.hpp"
 #include "claims.hpp"
 #include "tikomuci_builder.hpp"
@@ -25,6 +27,52 @@ void judged(Outcome measured) {
                        measured.refusal == Refusal::Start || measured.refusal == Refusal::Limit;
     claim(known, "a sheet is refused with 12, 13 or 1");
     claim(measured.stage == (measured ? Stage::Limits : Stage::Call), "a sheet is refused at stage 10");
+}
+
+// How long a text may be that is made twice. There are far longer ones.
+constexpr std::size_t LONGEST_TEXT = 300;
+
+// A text in an output of this size, which is refused, or is this one and all that is changed.
+void text_answered(Bytes sheet, std::uint64_t row, std::size_t room, Outcome wanted, const std::string &text = {}) {
+    fuzz::Store out(room);
+    const tikomuci_answer got = tikomuci_type_text(sheet.data(), sheet.size(), row, out.lent().data(), room);
+    claim(tikomuci::outcome_of(got) == wanted, "a text is put, or refused as it should be");
+    claim(got.first == text.size() && got.second == 0, "a text has its length, and a refusal no other data");
+    claim(out.first(text.size()) == Wire(text.begin(), text.end()),
+          "a text is what the second maker makes of the rows");
+    claim(out.kept_but(text.size()), "no byte is changed but those of a text that is put");
+}
+
+void text_refused(Bytes sheet, std::uint64_t row, Outcome wanted) {
+    for (const std::size_t room : std::initializer_list<std::size_t>{0, LONGEST_TEXT}) {
+        text_answered(sheet, row, room, wanted);
+    }
+}
+
+// The sheet is judged before the row, and the row before the room; the pool is none of it.
+void type_texts(const Stores &stores, Outcome measured) {
+    if (measured == SHEET) {
+        text_refused(stores.sheet, 0, SHEET);
+        text_refused(stores.sheet, FAR, SHEET);
+        return;
+    }
+    text_refused(stores.sheet, FAR, ABSENT);
+    const auto sheet = Sheet::open(stores.sheet, stores.pool);
+    const std::uint64_t rows = sheet ? sheet->types().size() : 0;
+    for (std::uint64_t row = 0; row < rows; ++row) {
+        const auto text = type_model::text_of(*sheet, row, LONGEST_TEXT);
+        if (!text) {
+            text_refused(stores.sheet, row, FULL);
+            continue;
+        }
+        text_answered(stores.sheet, row, text->size(), {}, *text);
+        text_answered(stores.sheet, row, text->size() + 1, {}, *text);
+        text_answered(stores.sheet, row, text->size() - 1, FULL);
+        text_answered(stores.sheet, row, 0, FULL);
+    }
+    if (sheet) {
+        text_refused(stores.sheet, rows, ABSENT);
+    }
 }
 
 // The rows of a sheet are the same by each way that leads to them; then somebody writes what else there is over the
@@ -83,6 +131,7 @@ extern "C" int LLVMFuzzerTestOneInput(const std::uint8_t *data, std::size_t size
             write_refused(lent.sheet, lent.pool, room, wanted);
         }
     }
+    type_texts(lent, measured);
     claim(same(lent.sheet, stores.sheet) && same(lent.pool, stores.pool), "a sheet that is written stays as it is");
     opened(stores, static_cast<bool>(wanted), input);
     return 0;

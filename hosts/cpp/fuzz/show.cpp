@@ -1,6 +1,7 @@
 // A fuzz target: any bytes, as a file, as a sheet with its pool and as the stores of a cache, through the text and the
 // JSON of the command. A name is a part of the input too.
 
+#include <array>
 #include <initializer_list>
 #include <string>
 
@@ -9,6 +10,7 @@
 #include "../../../command/escape.hpp"
 #include "../../../command/object.hpp"
 #include "../../../command/text.hpp"
+#include "../../../command/types.hpp"
 #include "claims.hpp"
 #include "lines.hpp"
 
@@ -20,6 +22,7 @@ using command::Container;
 using tikomuci::Sheet;
 
 constexpr std::size_t LONGEST_NAME = 40;
+constexpr std::size_t LONGEST_TYPE = 200;
 
 // What is put, in memory.
 class Memory : public command::Sink {
@@ -91,6 +94,20 @@ void constants(Bytes file, const Sheet &sheet) {
     }
 }
 
+// What is shown of a type is what the library makes of the whole sheet, and the row's number if that is too long.
+void types(const Sheet &sheet, std::string_view name) {
+    command::TypeTexts texts(sheet);
+    std::array<std::uint8_t, LONGEST_TYPE> room{};
+    for (std::uint64_t row = 0; row < sheet.types().size(); ++row) {
+        const auto size = sheet.type_text(row, room);
+        claim(size || size.outcome() == FULL, "a type of a file has a text");
+        const std::string number = "#" + std::to_string(row);
+        const std::string_view wanted = size ? command::text_of_bytes(Bytes(room).first(*size)) : number;
+        claim(texts.text(row) == wanted, "a type is shown as the library has it");
+        puts_object([&](command::Sink &out) { command::object::put_type(out, name, row, wanted); });
+    }
+}
+
 void shown(const Container &container, std::string_view name, const Sheet &sheet) {
     const std::uint64_t at = command::constants_at(container.file(), sheet);
     puts_text([&](command::Sink &out) { command::text::put_rows(out, sheet, at); });
@@ -109,6 +126,7 @@ void as_file(const Container &container, std::string_view name) {
     sections(container, name);
     if (tables) {
         constants(file, tables->sheet());
+        types(tables->sheet(), name);
         shown(container, name, tables->sheet());
         puts_object([&](command::Sink &out) { command::object::put_size(out, name, file, *size); });
     } else {

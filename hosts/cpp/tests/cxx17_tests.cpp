@@ -88,6 +88,10 @@ void tables() {
     const tikomuci::Builder builder(tables->sheet());
     const auto file = builder.file();
     expect(file && same(tables->sheet().bytes(), builder.sheet()), "rows built again");
+    std::array<std::byte, 11> out{};
+    const auto length = tikomuci::type_text(builder.sheet(), 1, out);
+    const auto text = tables->sheet().type_text(1);
+    expect(length && *length == out.size() && text && text->view() == "(i32) -> ()", "the text of a type");
     expect(!tikomuci::read(Wire{1, 2, 3}), "no tables");
 }
 

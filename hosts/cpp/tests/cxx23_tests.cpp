@@ -52,6 +52,8 @@ void converted(const std::string &what) {
     expect(number.has_value() && number.value() == 13, what + ": a number");
     const Of<Tables, Outcome> tables = tikomuci::read(file);
     expect(tables.has_value() && tables.value().sheet().strings().size() == 2, what + ": what can only be moved");
+    const Of<tikomuci::TypeText, Outcome> text = tikomuci::type_text(file, 0);
+    expect(!text.has_value() && text.error() == SHEET, what + ": a refusal of what can only be moved");
     static_assert(!std::is_convertible_v<const tikomuci::Got<Bytes> &, Of<Size, Outcome>>);
 }
 

@@ -1,5 +1,5 @@
 // Tests of docs/FORMAT.md: the files that it spells are read as the words and the pool beside them, and written from
-// them as the bytes that it has. They are run from the folder of the repository.
+// them as the bytes that it has; the types have the texts beside them. They are run from the folder of the repository.
 
 #include <fstream>
 #include <sstream>
@@ -7,6 +7,7 @@
 #include <vector>
 
 #include "check.hpp"
+#include "tikomuci_tables.hpp"
 
 namespace {
 
@@ -48,6 +49,22 @@ Wire store(const std::vector<std::string> &block, std::size_t size) {
     return bytes;
 }
 
+// Each type of the sheet has its text, and there are no others.
+void type_texts_of_format() {
+    const auto sheets = blocks("sheet");
+    const auto texts = blocks("texts");
+    expect(sheets.size() == 1 && texts.size() == 1, "a sheet and the texts of its types");
+    if (sheets.size() != 1 || texts.size() != 1) {
+        return;
+    }
+    const Wire sheet = little_endian(numbers<std::uint64_t>(sheets[0], 10));
+    for (std::size_t row = 0; row < texts[0].size(); ++row) {
+        const auto text = tikomuci::type_text(sheet, row);
+        expect(text && text->view() == texts[0][row], "type " + std::to_string(row) + " of FORMAT.md has its text");
+    }
+    expect(tikomuci::type_text(sheet, texts[0].size()).outcome() == ABSENT, "FORMAT.md has the texts of all types");
+}
+
 // The two files are put, fetched, and one of them is dropped: each time the stores are those that it has.
 void cache_tests_of_format() {
     const auto tables = blocks("owners");
@@ -81,6 +98,7 @@ void cache_tests_of_format() {
 
 void format_tests() {
     cache_tests_of_format();
+    type_texts_of_format();
     const auto files = blocks("bytes");
     const auto sheets = blocks("words");
     const auto pools = blocks("pool");

@@ -329,6 +329,7 @@ void limits() {
     expect(tikomuci::measure(file.first(most)).outcome() == Outcome{Refusal::Magic, Stage::Header},
            "a file at the limit is read");
     expect(tikomuci::image(file.first(8 * most_words)).outcome() == SHEET, "a sheet at the limit is judged");
+    expect(tikomuci::type_text(file.first(8 * (most_words + 1)), 0).outcome() == SHEET, "a text has no limit");
     expect(tikomuci::write({}, file.first(most), {}).outcome() == SHEET, "a pool at the limit is taken");
     munmap(memory, most + 1);
 }

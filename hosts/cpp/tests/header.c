@@ -58,6 +58,18 @@ static int cache_is_empty(void) {
            TIKOMUCI_SESSION_SLOTS == 64 && TIKOMUCI_OWNER_BYTES == 3 * sizeof(uint64_t);
 }
 
+/* A sheet with one type, in words as the processors that the library is for have them: little-endian. */
+static int type_has_a_text(void) {
+    const uint64_t words[] = {13, 4, 0, 0, 0, 19, 0, 19, 1, 21, 0, 21, 0, 21, 0, 21, 0, 21, 0, 1, TIKOMUCI_TYPE_F32};
+    const uint8_t *const sheet = (const uint8_t *)words;
+    uint8_t text[3];
+    return has(tikomuci_type_text(sheet, sizeof words, 0, text, sizeof text), 0, 0, 3, 0) &&
+           memcmp(text, "f32", sizeof text) == 0 &&
+           has(tikomuci_type_text(sheet, sizeof words, 0, text, 2), TIKOMUCI_REFUSAL_FULL, TIKOMUCI_STAGE_CALL, 0, 0) &&
+           TIKOMUCI_TYPE_TEXT_STACK(sizeof text) ==
+               TIKOMUCI_TYPE_TEXT_STACK_BASE + 3 * (size_t)TIKOMUCI_TYPE_TEXT_STACK_LEVEL;
+}
+
 /* What does not hold, or null. */
 const char *header_fault(void) {
     if (!version_is_that_of_the_text()) {
@@ -74,6 +86,9 @@ const char *header_fault(void) {
     }
     if (!cache_is_empty()) {
         return "an empty cache";
+    }
+    if (!type_has_a_text()) {
+        return "the text of a type";
     }
     return answers_come_by_value() ? NULL : "answers by value";
 }

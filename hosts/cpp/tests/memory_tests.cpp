@@ -1,5 +1,5 @@
-// Tests of what asks for memory: only reading a file into tables and making a cache do, and they answer where there is
-// none.
+// Tests of what asks for memory: only reading a file into tables, the text of a type that is not lent any, and making a
+// cache do, and they answer where there is none.
 
 #include <cstdlib>
 #include <new>
@@ -69,7 +69,7 @@ void nothing_is_allocated() {
     const std::size_t often = asks([&] {
         auto sheet = tikomuci::read_sheet(file, words, pool);
         right = sheet && sheet->index(index) && tikomuci::constant(file, 0) && tikomuci::section(file, 1) &&
-                tikomuci::write(words, pool, image) && tikomuci::Reader(file).varint();
+                tikomuci::write(words, pool, image) && tikomuci::Reader(file).varint() && sheet->type_text(1, image);
         for (const auto &function : sheet->functions()) {
             rows += function.body.size() + sheet->string(function.name)->size();
         }
@@ -80,6 +80,8 @@ void nothing_is_allocated() {
     expect(right && rows == 4 + 4 + 7 && often == 0, "views, rows and writing ask for no memory");
     expect(asks([&] { right = static_cast<bool>(tikomuci::read(file)); }) == 2 && right,
            "tables ask for their stores and their index");
+    expect(asks([&] { right = static_cast<bool>(tikomuci::type_text(words, 1)); }) == 1 && right,
+           "the text of a type asks for its own");
 }
 
 void no_memory() {
@@ -96,6 +98,11 @@ void no_memory() {
     const Outcome outcome = tikomuci::read(damaged).outcome();
     given = std::numeric_limits<std::size_t>::max();
     expect(outcome == Outcome{Refusal::Magic, Stage::Header}, "a refused file asks for none");
+    const Wire sheet = little_endian(every_table_sheet());
+    given = 0;
+    const Outcome text = tikomuci::type_text(sheet, 1).outcome();
+    given = std::numeric_limits<std::size_t>::max();
+    expect(text == Outcome{Refusal::Memory, Stage::Call}, "the text of a type where there is no memory");
 }
 
 // A cache asks for its slots and for what holds them with the lock, and no call on it asks for more.

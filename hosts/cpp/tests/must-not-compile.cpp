@@ -17,6 +17,7 @@ Container load();
 const Container constant_load();
 std::vector<std::byte> load_bytes();
 tikomuci::Tables tables();
+tikomuci::TypeText text();
 tikomuci::SessionStores session();
 tikomuci::ProfileCache cache();
 tikomuci::HeldProfile held();
@@ -55,6 +56,20 @@ void sheets(const tikomuci::Tables &kept, tikomuci::Sheet &sheet, std::vector<st
     const tikomuci::Sheet copy = kept.sheet();                      // error: (deleted function|deleted constructor)
     kept.sheet().bytes()[0] = 1;                                    // error: (read-only|cannot assign)
     kept.sheet().pool()[0] = 1;                                     // error: (read-only|cannot assign)
+}
+
+// A text in a container that is gone, and the view of a text that is gone.
+void texts(const Container &sheet, Container &out, const tikomuci::TypeText &kept, const tikomuci::Sheet &rows) {
+    static_cast<void>(kept.view());
+    static_cast<void>(tikomuci::type_text(load(), 0, out));    // the sheet may be gone: nothing of it is handed out
+    static_cast<void>(tikomuci::type_text(sheet, 0, load()));  // error: (no matching|keep the container)
+    static_cast<void>(tikomuci::type_text(out, 0, sheet));     // error: (no matching|conver)
+    static_cast<void>(text().view());                          // error: keep the text in a variable
+    static_cast<void>(*tikomuci::type_text(sheet, 0));         // error: give the answer a name
+    static_cast<void>(rows.type_text(0)->view());              // error: give the answer a name
+    const tikomuci::TypeText copy = kept;  // error: (deleted function|deleted constructor|implicitly)
+    tikomuci::type_text(sheet, 0, out);    // error: ignoring return
+    rows.type_text(0);                     // error: ignoring return
 }
 
 // A value that nobody looked at, and an answer that nobody did.

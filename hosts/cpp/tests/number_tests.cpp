@@ -18,6 +18,8 @@ void file_tests();
 void table_tests();
 void write_tests();
 void builder_tests();
+void type_text_tests();
+void type_stack_tests();
 void guard_tests();
 void cache_tests();
 void cache_guard_tests();
@@ -344,6 +346,8 @@ int main() {
     table_tests();
     write_tests();
     builder_tests();
+    type_text_tests();
+    type_stack_tests();
     guard_tests();
     cache_tests();
     cache_guard_tests();

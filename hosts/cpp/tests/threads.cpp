@@ -1,6 +1,7 @@
 // threads FILE..: sixty threads at once. Each reads shared files into stores of its own, views rows of its own number,
-// and reads and writes a file of its own in stores that stand side by side with those of its neighbours, in one
-// allocation. Run under a thread sanitizer, it shows that no call keeps anything, or touches what another one was lent.
+// makes the texts of all types, and reads and writes a file of its own in stores that stand side by side with those of
+// its neighbours, in one allocation. Run under a thread sanitizer, it shows that no call keeps anything, or touches
+// what another one was lent.
 
 #include <algorithm>
 #include <cstdio>
@@ -32,13 +33,24 @@ struct Known {
     Wire sheet;
     Wire pool;
     std::vector<tikomuci::Got<Bytes>> sections;
+    std::vector<Wire> types;
 };
 
 bool same(Bytes a, Bytes b) { return std::equal(a.begin(), a.end(), b.begin(), b.end()); }
 
+// The texts of the types of a sheet, up to the first that is not there or does not fit.
+std::vector<Wire> types_of(Bytes sheet) {
+    std::vector<Wire> texts;
+    Wire text(tikomuci::TYPE_TEXT_BYTES);
+    while (const auto size = tikomuci::type_text(sheet, texts.size(), text)) {
+        texts.emplace_back(text.begin(), text.begin() + static_cast<std::ptrdiff_t>(*size));
+    }
+    return texts;
+}
+
 // What one reading gets, before the threads start.
 Known read(Wire file) {
-    Known got{std::move(file), {}, {}, {}, {}};
+    Known got{std::move(file), {}, {}, {}, {}, {}};
     got.size = tikomuci::measure(got.file).value_or(tikomuci::Size{});
     got.sheet.resize(got.size.words * 8);
     got.pool.resize(got.size.bytes);
@@ -49,6 +61,7 @@ Known read(Wire file) {
     for (std::uint64_t id = 1; id <= SECTIONS; ++id) {
         got.sections.push_back(tikomuci::section(got.file, id));
     }
+    got.types = types_of(got.sheet);
     return got;
 }
 
@@ -66,6 +79,7 @@ Known rows(std::uint64_t first, std::uint64_t last) {
         const std::uint64_t name = tables.string(row('s', number));
         tables.constant(row('c', number));
         tables.function({name, 0, 0, 0, row('b', number)});
+        tables.tile(number - first - 1, {static_cast<std::int64_t>(number)});
     }
     return read(tables.file().value_or(Wire()));
 }
@@ -151,7 +165,8 @@ int wrong_rounds(const std::vector<Known> &files, const Slot &slot, std::uint64_
     for (int round = 0; round < ROUNDS; ++round) {
         const bool right = own_rows(files[0].file, number) && own_stores(slot) &&
                            std::all_of(files.begin(), files.end(), [](const Known &shared) {
-                               return same_tables(shared) && same_sections(shared) && same_image(shared);
+                               return same_tables(shared) && same_sections(shared) && same_image(shared) &&
+                                      types_of(shared.sheet) == shared.types;
                            });
         wrong += right ? 0 : 1;
     }

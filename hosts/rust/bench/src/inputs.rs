@@ -1,4 +1,5 @@
-//! The files that are read, viewed, written and kept: a small kernel, many rows in every table, and large constants.
+//! The files that are read, viewed, written and kept, and whose types are named: a small kernel, many rows in every
+//! table or of types alone, and large constants.
 
 use oracle::bytecode::TypeTag;
 
@@ -80,9 +81,12 @@ fn made(sizes: &Sizes) -> Input {
     Input { sheet, pool, file }
 }
 
+/// How many types the kernel has.
+pub const KERNEL_TYPES: u64 = 15;
+
 const KERNEL: Sizes = Sizes {
     strings: 16,
-    types: 15,
+    types: KERNEL_TYPES,
     constants: 4,
     globals: 4,
     functions: 2,
@@ -117,6 +121,11 @@ pub fn rows(count: u64) -> Input {
         constant: 16,
         body: 24,
     })
+}
+
+/// So many types, and no rows of another table but a string.
+pub fn types(count: u64) -> Input {
+    made(&Sizes { types: count, ..no_rows() })
 }
 
 /// 64 constants of 1 MiB.

@@ -5,6 +5,7 @@ mod caches;
 mod files;
 mod inputs;
 mod map;
+mod names;
 mod numbers;
 mod timing;
 
@@ -17,6 +18,7 @@ fn about() {
     println!("`called`: encoding.rs's EncodingWriter or decoder.rs's Reader behind a call that answers the same;");
     println!("`inlined`: the same, inlined into the loop that times it. Capacities are reserved.");
     println!("Arrays have 1,000 numbers; reading one ends with the numbers in a vector on both sides.");
+    println!("Types are named by a call for each row, which judges the whole sheet, into one buffer of 256 bytes.");
     println!(
         "Caches are full. A slot has as many bytes as the file, in whole lines of 64 bytes, so that a put writes what memcpy does;"
     );
@@ -51,5 +53,6 @@ fn main() {
     let rows = [numbers::varints(), numbers::arrays(), numbers::padding(), numbers::floats()].concat();
     table(&rows);
     table(&files::all());
+    table(&names::all());
     table(&caches::all());
 }

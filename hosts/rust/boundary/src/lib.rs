@@ -138,6 +138,7 @@ extern "C" {
         out: *mut u8,
         out_len: usize,
     ) -> Answer;
+    fn tikomuci_type_text(sheet: *const u8, sheet_len: usize, row: u64, out: *mut u8, out_len: usize) -> Answer;
 }
 
 /// How many words and pool bytes a file's tables take.
@@ -162,6 +163,12 @@ pub fn image(sheet: &[u8]) -> Answer {
 pub fn write(sheet: &[u8], pool: &[u8], out: &mut [u8]) -> Answer {
     // SAFETY: as above, and the output is ours alone until the call returns; a `&mut` slice overlaps no other.
     unsafe { tikomuci_write(sheet.as_ptr(), sheet.len(), pool.as_ptr(), pool.len(), out.as_mut_ptr(), out.len()) }
+}
+
+/// Writes the name of a type row of a sheet at the start of an output.
+pub fn type_text(sheet: &[u8], row: u64, out: &mut [u8]) -> Answer {
+    // SAFETY: as above.
+    unsafe { tikomuci_type_text(sheet.as_ptr(), sheet.len(), row, out.as_mut_ptr(), out.len()) }
 }
 
 writers! {

@@ -6,7 +6,7 @@ mod reading;
 use std::collections::BTreeMap;
 
 use boundary::{Answer, ABSENT, FULL, LIMIT, STAGE_LIMITS};
-use reading::{read, text, UNTOUCHED};
+use reading::{assert_names, names, read, text, UNTOUCHED};
 
 const ANSWERS: &str = include_str!("data/answers.txt");
 
@@ -86,6 +86,18 @@ fn accepted_files_have_the_text_of_decoder_rs() {
         let text = text(&file, &words, &pool).escape_default().to_string();
         assert_eq!((row, rust), ("-", format!("text \"{text}\"").as_str()), "{file:02X?}");
     }
+}
+
+/// The recorded texts have their newlines escaped.
+#[test]
+fn types_have_the_names_of_decoder_rs() {
+    let mut rows = 0;
+    for Case { file, rust, .. } in cases().iter().filter(|case| case.ours == "0") {
+        let names = names(rust.split("\\n"));
+        assert_names(&read(file).0, &names);
+        rows += names.len();
+    }
+    assert!(rows >= 250, "{rows} types");
 }
 
 #[test]

@@ -9,7 +9,7 @@ use std::path::{Path, PathBuf};
 
 use boundary::Answer;
 use dump::Sheet;
-use reading::{read, text, UNTOUCHED};
+use reading::{assert_names, names, read, text, UNTOUCHED};
 
 const FOLDER: &str = concat!(env!("CARGO_MANIFEST_DIR"), "/../../files");
 
@@ -49,6 +49,17 @@ fn the_text_is_the_one_that_was_printed() {
         let (words, pool) = read(&file);
         assert_eq!(text(&file, &words, &pool), printed);
     }
+}
+
+#[test]
+fn types_have_the_names_that_were_printed() {
+    let mut rows = 0;
+    for (file, printed) in accepted() {
+        let names = names(printed.lines());
+        assert_names(&read(&file).0, &names);
+        rows += names.len();
+    }
+    assert!(rows >= 200, "{rows} types");
 }
 
 /// The text does not show all words; the plain reader gives them.

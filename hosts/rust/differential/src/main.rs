@@ -13,6 +13,7 @@ mod files;
 mod floats;
 mod genuine;
 mod memory;
+mod names;
 mod readers;
 mod sheets;
 mod sources;
@@ -43,6 +44,7 @@ fn compare(seed: u64, share: u64, genuine: Option<&Path>) -> io::Result<ExitCode
         None => println!("files of the genuine writer: LEFT OUT"),
     }
     caches::compare(genuine, &mut random, &mut report)?;
+    names::compare(&mut random, &mut report);
     Ok(if report.finish() { ExitCode::SUCCESS } else { ExitCode::FAILURE })
 }
 

@@ -55,7 +55,7 @@ pub fn edges() -> Vec<u64> {
 pub enum Against {
     /// encoding.rs or decoder.rs, which was asked.
     Rust,
-    /// The second reader, judge, writer and cache, hosts/rust/plain.
+    /// The second reader, judge, writer, cache and names, hosts/rust/plain.
     Plain,
     /// What is known without either: the tables of which a file was made, or document 01 where the Rust cannot be asked.
     Known,
@@ -65,7 +65,7 @@ pub enum Against {
 
 const AGAINST: [(Against, &str); 4] = [
     (Against::Rust, "against the Rust"),
-    (Against::Plain, "against the second reader, judge, writer and cache"),
+    (Against::Plain, "against the second reader, judge, writer, cache and names"),
     (Against::Known, "against what is known without them"),
     (Against::Demand, "demands on the run"),
 ];

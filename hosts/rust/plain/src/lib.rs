@@ -1,7 +1,7 @@
-//! Reads Tile IR bytecode into the sheet and the pool of document 01, judges a handed sheet and writes it as a file,
-//! and keeps a cache of files, as one would write it with vectors in safe Rust. It shares no code with the library and
-//! none with decoder.rs: a second opinion, and the plain side of measurements. It also follows decoder.rs over a file
-//! where docs/DIFFERENCES.md says that it parts from document 01.
+//! Reads Tile IR bytecode into the sheet and the pool of document 01, judges a handed sheet, writes it as a file and
+//! names its types, and keeps a cache of files, as one would write it with vectors in safe Rust. It shares no code with
+//! the library and none with decoder.rs: a second opinion, and the plain side of measurements. It also follows
+//! decoder.rs over a file where docs/DIFFERENCES.md says that it parts from document 01.
 
 pub mod cache;
 mod container;
@@ -11,6 +11,7 @@ mod entries;
 pub mod fields;
 mod judge;
 mod manner;
+mod names;
 mod refusal;
 mod rows;
 mod sheet;
@@ -20,6 +21,7 @@ mod writer;
 use std::ops::Range;
 
 pub use container::{Sections, Version};
+pub use names::type_text;
 pub use refusal::{Detail, Refusal, Stop};
 pub use writer::{image, write};
 

@@ -1,7 +1,7 @@
 -- `put_list` puts the ids of a debug list. Assumes nothing.
 use mathlib.Core.Path.{sym, _∙_}
 use Rattle.images.specs.Rows.{rowWords, rowRun, rowBytes}
-use Rattle.images.proofs.LawsPut.{lies-first}
+use Rattle.sheet.proofs.LawsLies.{lies-first}
 use Rattle.images.proofs.LawsFields.{copied-then, copied-as, copied-knowing}
 use Rattle.images.proofs.LawsTypes.{absent-copied, many-flat64}
 use borrow.Author.Needs.{needs}

@@ -1,6 +1,6 @@
 -- `gather_scatter_view` copies the fields of its kind. Assumes nothing.
 use mathlib.Core.Path.{_∙_}
-use Rattle.images.proofs.LawsPut.{lies-first}
+use Rattle.sheet.proofs.LawsLies.{lies-first}
 use Rattle.images.proofs.LawsFields.{copied-then, copied-knowing}
 use Rattle.images.proofs.LawsTypes.{varint-copied, optional-copied, list32}
 use borrow.Author.Needs.{needs}

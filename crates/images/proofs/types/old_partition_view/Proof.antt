@@ -1,7 +1,7 @@
 -- `old_partition_view` copies the fields of its kind. Assumes nothing.
 use mathlib.Core.Path.{_∙_}
 use native.Mathlib.Omega.{arith}
-use Rattle.images.proofs.LawsPut.{lies-first}
+use Rattle.sheet.proofs.LawsLies.{lies-first}
 use Rattle.images.proofs.LawsFields.{copied-then, copied-knowing}
 use Rattle.images.proofs.LawsTypes.{varint-copied, list32, absent-copied, presence-put, present-copied}
 use borrow.Author.Needs.{needs}

@@ -1,7 +1,8 @@
 -- `put_fields` chooses by the tag. Assumes nothing.
 use mathlib.Core.Path.{refl}
-use Rattle.images.specs.Types.{kindOf, FieldsCopied}
-use Rattle.images.proofs.LawsTypes.{kind-plain}
+use Rattle.format.specs.Kinds.{kindOf}
+use Rattle.format.proofs.LawsKinds.{kind-plain}
+use Rattle.images.specs.Types.{FieldsCopied}
 use borrow.Author.Needs.{needs}
 use Rattle.images.proofs.types.put_fields.Statement.{statement}
 use Rattle.images.proofs.types.put_fields.Tie as tie

@@ -1,7 +1,7 @@
 -- `tensor_view` copies the fields of its kind. Assumes nothing.
 use mathlib.Core.Path.{_∙_}
 use Rattle.format.specs.Tests.{since4?}
-use Rattle.images.proofs.LawsPut.{lies-first}
+use Rattle.sheet.proofs.LawsLies.{lies-first}
 use Rattle.images.proofs.LawsFields.{copied-then, copied-knowing}
 use Rattle.images.proofs.LawsTypes.{varint-copied, varint-where, optional-copied, list64}
 use borrow.Author.Needs.{needs}

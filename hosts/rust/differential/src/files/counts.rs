@@ -25,8 +25,9 @@ pub const REACHABLE: [(u64, &[u64]); 11] = [
 /// The entries of docs/DIFFERENCES.md by which a file can part.
 const ENTRIES: [u8; 10] = [5, 11, 12, 13, 14, 15, 16, 17, 18, 22];
 
-/// So many files at least have to be accepted.
+/// So many files at least have to be accepted, and so many of their types named.
 const LEAST_ACCEPTED: u64 = 200_000;
+const LEAST_NAMED: u64 = 150_000;
 
 /// Of a hundred files decoder.rs has to answer all but fewer than so many.
 const MOST_UNANSWERED: u64 = 1;
@@ -54,6 +55,7 @@ impl Kind {
 pub struct Counts {
     pub files: u64,
     pub accepted: u64,
+    pub named: u64,
     refused: BTreeMap<(u64, u64), u64>,
     classes: BTreeMap<Class, Kind>,
     apart: BTreeMap<&'static str, Kind>,
@@ -80,6 +82,7 @@ impl Counts {
     /// Prints the counts.
     pub fn finish(self, report: &mut Report) {
         println!("  files: {}; accepted by both sides, with the same text: {}", self.files, self.accepted);
+        println!("  types of those, each named by both sides: {}", self.named);
         println!("  refused, and decoder.rs answered, as number@stage and how often:");
         for (stage, numbers) in REACHABLE {
             let count = |number: &u64| self.refused.get(&(stage, *number)).copied().unwrap_or(0);
@@ -111,6 +114,7 @@ impl Counts {
     fn all_occur(&self) -> Tally {
         let mut tally = Tally::new("every refusal occurs", Against::Demand);
         tally.case(self.accepted >= LEAST_ACCEPTED, [0; 3], || format!("only {} accepted files", self.accepted));
+        tally.case(self.named >= LEAST_NAMED, [0; 3], || format!("only {} named types", self.named));
         for (stage, numbers) in REACHABLE {
             for &number in numbers {
                 let occurs = self.refused.get(&(stage, number)).is_some_and(|&count| count > 0);

@@ -7,7 +7,7 @@ use dump::Sheet;
 use super::types::TAGS;
 use crate::tally::{Against, Tally};
 
-const CLASSES: [&str; 3] = ["below 13.3", "from 13.3", "from 13.4"];
+pub const CLASSES: [&str; 3] = ["below 13.3", "from 13.3", "from 13.4"];
 const DEBUG_TAGS: u64 = 7;
 /// The file at the limit of 2^30 bytes is left out of the sizes.
 const LARGE: usize = 1 << 20;
@@ -22,14 +22,14 @@ pub struct Coverage {
 }
 
 /// The version class of a sheet, as its place in `CLASSES`.
-fn class(words: &[u64]) -> usize {
+pub fn version_class(words: &[u64]) -> usize {
     let version = (words[0], words[1]);
     usize::from(version >= (13, 3)) + usize::from(version >= (13, 4))
 }
 
 impl Coverage {
     pub fn add(&mut self, file: &[u8], words: &[u64]) {
-        let (class, sheet) = (class(words), Sheet::new(words, &[]));
+        let (class, sheet) = (version_class(words), Sheet::new(words, &[]));
         for row in sheet.types() {
             *self.types.entry((row[0], class)).or_default() += 1;
         }

@@ -22,7 +22,7 @@ mod wire;
 pub use answers::write as write_answers;
 pub use calls::{Stores, Tables};
 pub use counts::REACHABLE;
-pub use coverage::Coverage;
+pub use coverage::{version_class, Coverage, CLASSES};
 pub use damage::damaged;
 pub use dice::Dice;
 pub use faults::faulty;
@@ -30,6 +30,7 @@ pub use judge::{ask, expect_panics, quietly, sums_are_checked, wrapping_end, Rus
 pub use made::{make, Made};
 pub use smallest::{all as smallest, invalid_utf8, one_section};
 pub use texts::{Compared, Texts};
+pub use types::{tag as any_tag, TAGS};
 
 use boundary::Answer;
 use plain::Refusal;
@@ -157,8 +158,9 @@ impl Run {
     pub fn finish(mut self, report: &mut Report) -> (Counts, Coverage) {
         self.counts.refused(boundary::FULL, boundary::STAGE_CALL, self.calls.rooms);
         self.counts.refused(boundary::ABSENT, boundary::STAGE_CALL, self.calls.outside);
+        self.counts.named = self.texts.named();
         self.calls.finish(report);
-        [self.texts.finish(), self.refusals].into_iter().for_each(|tally| report.add(tally));
+        self.texts.finish().into_iter().chain([self.refusals]).for_each(|tally| report.add(tally));
         (self.counts, self.coverage)
     }
 }

@@ -174,9 +174,8 @@ impl Calls {
 
     /// Prints the tallies. Gives what this run came upon.
     pub fn finish(self, report: &mut Report) -> (Counts, Coverage) {
-        [self.image, self.write, self.small, self.back, self.texts.finish()]
-            .into_iter()
-            .for_each(|tally| report.add(tally));
+        let tallies = [self.image, self.write, self.small, self.back].into_iter().chain(self.texts.finish());
+        tallies.for_each(|tally| report.add(tally));
         (self.counts, self.coverage)
     }
 }

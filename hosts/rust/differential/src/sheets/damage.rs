@@ -44,6 +44,10 @@ pub const WOUNDS: [(&str, Wound); 34] = [
     ("a length and the pool's, both higher", both_lengths),
 ];
 
+/// Those that a call that is lent no pool does not see.
+const OF_POOL: [&str; 3] =
+    ["a pool one byte longer", "a pool one byte shorter", "a length and the pool's, both higher"];
+
 /// One of several.
 fn any_of(dice: &mut Dice, places: &[usize]) -> Option<usize> {
     let count = places.len() as u64;
@@ -316,12 +320,15 @@ impl Wounds {
         self.0[wound][usize::from(well_formed)] += 1;
     }
 
-    pub fn finish(self) -> Tally {
+    /// Each that the call can see has to have been refused.
+    pub fn finish(self, pool_is_lent: bool) -> Tally {
         let mut tally = Tally::new("every wound is refused", Against::Demand);
         println!("  wounds, how often they were refused, and how often what they left was well-formed:");
         for ((what, _), [refused, well_formed]) in WOUNDS.iter().zip(self.0) {
             println!("    {what}: {refused}, {well_formed}");
-            tally.case(refused > 0, [0; 3], || format!("no sheet is refused that has {what}"));
+            if pool_is_lent || !OF_POOL.contains(what) {
+                tally.case(refused > 0, [0; 3], || format!("no sheet is refused that has {what}"));
+            }
         }
         tally
     }

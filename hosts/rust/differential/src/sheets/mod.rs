@@ -10,7 +10,7 @@ mod handed;
 use crate::files::{make, most_rows, Dice};
 use crate::tally::{Random, Report};
 pub use calls::Calls;
-use damage::{Wounds, WOUNDS};
+pub use damage::{damaged, Wounds, WOUNDS};
 pub use handed::Handed;
 
 /// Sheets that are well-formed, and how many damaged copies are made of each.
@@ -27,7 +27,7 @@ pub fn compare(random: &mut Random, report: &mut Report) {
         calls.well_formed(&mut dice, &whole);
         for copy in 0..COPIES {
             let first = (i * COPIES + copy) as usize % WOUNDS.len();
-            let (wound, damaged) = damage::damaged(&mut dice, &whole, first);
+            let (wound, damaged) = damaged(&mut dice, &whole, first);
             wounds.add(wound, calls.any(&mut dice, &damaged).is_some());
         }
     }
@@ -35,5 +35,5 @@ pub fn compare(random: &mut Random, report: &mut Report) {
     let (counts, coverage) = calls.finish(report);
     report.demand(counts.finish());
     report.demand(coverage.finish());
-    report.demand(wounds.finish());
+    report.demand(wounds.finish(true));
 }

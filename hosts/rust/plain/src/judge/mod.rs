@@ -8,6 +8,7 @@ use crate::debug::FIELDS;
 use crate::refusal::{stop, Stop, SHEET};
 use crate::rows::HAS_OPTIMIZATION_HINTS;
 use crate::sheet::CONTENTS_END;
+pub use words::whole_words;
 use words::{require, Words};
 
 /// The rows of a table, one by one. Of types and lists they are what stands behind the count.

@@ -11,6 +11,13 @@ pub fn require(holds: bool) -> Result<(), Stop> {
     }
 }
 
+/// The words of a sheet that is lent as bytes, if they are whole words.
+pub fn whole_words(sheet: &[u8]) -> Result<Vec<u64>, Stop> {
+    let chunks = sheet.chunks_exact(8);
+    require(chunks.remainder().is_empty())?;
+    Ok(chunks.map(|eight| u64::from_le_bytes(eight.try_into().expect("a chunk has eight bytes"))).collect())
+}
+
 /// The words that are left.
 pub struct Words<'a>(pub &'a [u64]);
 

@@ -5,7 +5,7 @@ mod wire;
 
 use crate::container::{Version, END_OF_BYTECODE, MAGIC_BYTES, MOST_BYTES};
 use crate::debug::FIELDS;
-use crate::judge::{judge, Judged, Rows};
+use crate::judge::{judge, whole_words, Judged, Rows};
 use crate::refusal::{stop, AtStage, Refusal, Stop, LIMIT, SHEET, STAGE_CALL};
 use wire::{Pool, Wire};
 
@@ -140,11 +140,7 @@ fn words(sheet: &[u8]) -> Result<Vec<u64>, Stop> {
     if sheet.len() / 8 > MOST_WORDS {
         return Err(stop(LIMIT));
     }
-    let chunks = sheet.chunks_exact(8);
-    if !chunks.remainder().is_empty() {
-        return Err(stop(SHEET));
-    }
-    Ok(chunks.map(|eight| u64::from_le_bytes(eight.try_into().expect("a chunk has eight bytes"))).collect())
+    whole_words(sheet)
 }
 
 /// The size of the file, if it is not too long. A start that does not fit is found before.

@@ -1,0 +1,4 @@
+pub mod Indices
+pub mod Openings
+pub mod Endings
+pub mod Parts

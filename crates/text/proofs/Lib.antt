@@ -1,0 +1,3 @@
+pub mod LawsText
+pub mod LawsDigits
+pub mod LawsNumbers
