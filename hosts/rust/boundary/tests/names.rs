@@ -132,7 +132,15 @@ fn names_that_no_memory_holds() {
 /// Pointers, each to the one before.
 #[test]
 fn names_in_names() {
-    const DEPTH: usize = 10_000;
+    /// What the header says of the stack, for an output as long as the name.
+    const STACK: usize = 16384 + 480 * (256 + 5 * DEPTH + 3);
+    std::thread::Builder::new().stack_size(STACK).spawn(deep_names).unwrap().join().unwrap();
+}
+
+const DEPTH: usize = 10_000;
+
+/// Pointers, each to the one before.
+fn deep_names() {
     let rows: Vec<[u64; 4]> = (0..DEPTH as u64).map(|i| [12, 0, i, 0]).collect();
     let sheet = sheet([&[7][..]].into_iter().chain(rows.iter().map(|row| &row[..])));
     let name = [&b"ptr<".repeat(DEPTH)[..], b"f32", &b">".repeat(DEPTH)].concat();
