@@ -421,11 +421,11 @@ TIKOMUCI_CALL tikomuci_answer tikomuci_write(const uint8_t *sheet, size_t sheet_
  * well-formed, where no pool is lent; 14 for a number that no type has; 11 for a text that has no room. A refused call
  * changes nothing. A sheet may have any length.
  *
- * What it costs: the whole sheet is judged, and each name that is put is found by a walk over the rows before it. A text
- * of at most 256 bytes is put into an array of the call's own and copied; a longer one is measured before it is put, so
- * that its names are looked for three times. Putting and measuring stop as soon as the room is used up, so that a call is
- * bounded by the output and the rows, and not by the text: of thirteen function types that each name the one before
- * eight times, the last has a text of more than 2^39 bytes, and is refused with 11 at once.
+ * What it costs: the whole sheet is judged, and each name that is put is found by a walk over the rows before it. A
+ * text of at most 256 bytes is put into an array of the call's own and copied; a longer one is measured before it is
+ * put, so that its names are looked for three times. Putting and measuring stop as soon as the room is used up, so that
+ * a call is bounded by the output and the rows, and not by the text: of thirteen function types that each name the one
+ * before eight times, the last has a text of more than 2^39 bytes, and is refused with 11 at once.
  *
  * What it takes of the stack: for each type inside another it calls itself, and puts a byte or more before, so that it
  * never goes deeper than the output has bytes, or that array. TIKOMUCI_TYPE_TEXT_STACK is how many bytes of stack
