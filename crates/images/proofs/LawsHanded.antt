@@ -1,22 +1,20 @@
 -- What is answered of a handed sheet, by what the judge says of it. Assumes nothing.
-use mathlib.Core.Path.{_≡_, refl, sym, ap, _∙_, subst}
+use mathlib.Core.Path.{_≡_, sym, ap, _∙_}
 use Prim.Native.Nat.{ℕ, _^_, _<_}
 use native.Mathlib.Omega.{arith}
 use native.Mathlib.Decide.{ℕ-discrete}
 use mathlib.Core.List.{List}
-use mathlib.Core.Option.{Option, none, some}
+use mathlib.Core.Option.{none, some}
 use lib.ListN.{length, replicate, length-replicate}
-use Rattle.exact.specs.Choice.{choose}
 use Rattle.exact.proofs.LawsChoice.{choose-yes, choose-no}
 use Rattle.enums.specs.Refusals as refusals
-use Rattle.format.specs.Read.{accepted}
 use Rattle.format.specs.Tables.{Tables}
 use Rattle.format.specs.Explains.{class}
-use Rattle.format.specs.Sheet.{Frame, poolLength, sheetOf, poolOf}
-use Rattle.format.specs.Sound.{All, Fits, classIn}
+use Rattle.format.specs.Sheet.{poolLength, poolOf}
+use Rattle.format.specs.Sound.{All, Fits}
 use Rattle.format.specs.Judge.{cutting, withPool, tablesOf}
 use Rattle.format.specs.Tests.{both?, all?, fits?}
-use Rattle.format.specs.Write.{refuses, imaged, blank}
+use Rattle.format.specs.Write.{imaged, blank}
 use Rattle.format.proofs.LawsSoundItems.{zeros-fit}
 use Rattle.format.proofs.Sheets.{sheet-judged, judged-pool}
 use Rattle.sheet.specs.Store.{wordsIn}
@@ -24,7 +22,7 @@ use Rattle.sheet.proofs.LawsWords.{length-wordsIn}
 use Rattle.judge.specs.declared.Judged.{Judged}
 use Rattle.judge.specs.declared.SheetJudged.{SheetJudged}
 use Rattle.judge.specs.declared.SheetJudged.the-variants as sheet
-use Rattle.judge.specs.Judge.{judgedBytes, notSound, judgedRead, summary}
+use Rattle.judge.specs.Judge.{judgedBytes, judgedRead, summary}
 use Rattle.judge.proofs.LawsPlaced.{stopped-none, judged-words, Passes, passed-of}
 use Rattle.images.specs.Written.{imageSize, lengthOf, inRoom, withImage, Told, ImageTold, JudgedWritten}
 use Rattle.images.specs.declared.Imaged.{Imaged}

@@ -6,7 +6,7 @@ use Prim.Native.Nat.{ℕ, _+_, _^_, _≤_, _<_}
 use native.Mathlib.Nat.{zero-add}
 use native.Mathlib.Decide.{decLe}
 use native.Mathlib.Omega.{arith}
-use mathlib.Core.List.{List, [], append-nil}
+use mathlib.Core.List.{List, []}
 use mathlib.Core.Option.{some, Option·some-injective}
 use lib.ListN.{length}
 use Rattle.exact.proofs.LawsChoice.{choose-yes, choose-no}
@@ -16,7 +16,7 @@ use Rattle.encoding.proofs.LawsOut.{put-full}
 use Rattle.format.specs.Read.{accepted}
 use Rattle.format.specs.Tables.{Tables}
 use Rattle.format.specs.Decode.{mostBytes}
-use Rattle.format.specs.Sheet.{sheetOf, poolOf}
+use Rattle.format.specs.Sheet.{poolOf}
 use Rattle.format.specs.Image.{image, Starts32}
 use Rattle.format.specs.Write.{Writing, writes, refuses, starts32?, imaged}
 use Rattle.format.proofs.LawsStarts.{starts-fit}

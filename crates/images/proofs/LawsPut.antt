@@ -4,15 +4,13 @@ use mathlib.Core.Logic.{_⊎_, inl, inr}
 use Prim.Native.Nat.{ℕ, _+_, _-_, _%_, _^_, _≤_, _<_}
 use native.Mathlib.Nat.{add-zero, mod-eq-of-lt}
 use native.Mathlib.Omega.{arith}
-use mathlib.Core.List.{List, [], _∷_, _++_, append-assoc}
-use lib.ListN.{length, replicate, take, drop, getD, length-append}
-use lib.Seq.{take-append-seam, drop-at, getD-at}
+use mathlib.Core.List.{List, [], _∷_, _++_}
+use lib.ListN.{length, replicate, take, drop, length-append}
 use Rattle.exact.specs.Fixed.{bytesOf}
 use Rattle.enums.specs.Container.{P}
 use Rattle.encoding.specs.Out.{put}
 use Rattle.sheet.proofs.LawsLies.{lies-inside, lies-taken}
 use Rattle.encoding.proofs.LawsOut.{put-nil, put-append, length-put}
-use Rattle.sheet.specs.Lies.{Lies}
 use Rattle.images.specs.Put.{Puts, Wrote, Lent, RunPut}
 
 -- A list of no elements has nothing before its end.

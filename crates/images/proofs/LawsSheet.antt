@@ -2,13 +2,13 @@
 use mathlib.Core.Path.{_≡_, refl, sym, ap, ap₂, _∙_, subst}
 use Prim.Native.Nat.{ℕ, _+_, _^_, _≤_, _<_}
 use native.Mathlib.Omega.{arith}
-use mathlib.Core.List.{List, [], _∷_, _++_, map, append-nil}
+use mathlib.Core.List.{List, [], _∷_, _++_, map}
 use lib.ListN.{length, getD, length-map, length-append}
 use Rattle.exact.specs.Tiling.{join}
 use Rattle.enums.specs.declared.VersionClass.{VersionClass}
 use Rattle.format.specs.Tables.{TypeRow, Global, Function, Attribute, Tables}
 use Rattle.format.specs.Explains.{class}
-use Rattle.format.specs.Sheet.{Frame, functionRowOf, frameOf, lengthWords, typeWords, globalWords, functionWords, attributeWords, listWords, bodies, contents, producerWord, poolLength, wordsOf, sheetOf, poolOf}
+use Rattle.format.specs.Sheet.{functionRowOf, frameOf, lengthWords, typeWords, globalWords, functionWords, attributeWords, listWords, bodies, contents, producerWord, wordsOf, sheetOf, poolOf}
 use Rattle.format.specs.Sound.{All, SoundFunction, Sound}
 use Rattle.sheet.specs.Lies.{Lies}
 use Rattle.images.specs.Rows.{GoodRow, rowWords, rowRun, rowBytes, Placed}

@@ -1,5 +1,5 @@
 -- A count, padding, starts and rows, one after the other, are an offset table. Assumes nothing.
-use mathlib.Core.Path.{_≡_, refl, sym, ap, _∙_, subst}
+use mathlib.Core.Path.{_≡_, sym, ap, _∙_, subst}
 use mathlib.Core.Logic.{inr}
 use Prim.Native.Nat.{ℕ, suc, _+_, _-_, _*_, _%_, _^_, _≤_, _<_}
 use native.Mathlib.Nat.{zero-add, zero-mul, suc-mul, mod-eq-of-lt}
@@ -19,7 +19,7 @@ use Rattle.format.specs.Image.{paddedNumbers, offsetTable}
 use Rattle.sheet.specs.Store.{wordsIn}
 use Rattle.sheet.specs.Lies.{Lies}
 use Rattle.images.specs.Put.{Wrote}
-use Rattle.images.specs.Rows.{RowOf, GoodRow, rowWords, rowRun, rowBytes, RowCopied, Placed, RowsPut}
+use Rattle.images.specs.Rows.{RowOf, rowWords, rowRun, rowBytes, RowCopied, RowsPut}
 use Rattle.images.specs.Tables.{countAndPadding, CountPut, ids, NextEntry, Starting, StartsPut, ListStartsPut, TablePut}
 use Rattle.images.specs.declared.fields.Pen.{Pen}
 use Rattle.images.specs.declared.rows.Row.{Row}

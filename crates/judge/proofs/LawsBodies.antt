@@ -1,7 +1,7 @@
 -- Where the bodies of a sheet stand, and the rows of types among them. Assumes nothing.
 use mathlib.Core.Path.{_≡_, refl, sym, ap}
-use Prim.Native.Nat.{ℕ, _+_}
-use mathlib.Core.List.{List, [], _∷_, _++_, map, append-nil}
+use Prim.Native.Nat.{_+_}
+use mathlib.Core.List.{[], _∷_, _++_, map, append-nil}
 use lib.ListN.{length, getD, length-map}
 use Rattle.exact.specs.Tiling.{join}
 use Rattle.format.specs.Sheet.{Frame, lengthWords, typeWords, bodies, contents, producerWord, poolLength, wordsOf}

@@ -1,14 +1,12 @@
 -- What was put behind the names, step by step. Assumes nothing.
-use mathlib.Core.Path.{_≡_, refl, sym, ap, ap₂, _∙_, subst}
+use mathlib.Core.Path.{_≡_, refl, sym, ap, ap₂, _∙_}
 use Prim.Native.Nat.{ℕ, _+_, _%_, _^_, _<_}
-use native.Mathlib.Omega.{arith}
-use mathlib.Core.List.{List, [], _∷_, _++_, map}
+use mathlib.Core.List.{List, [], _∷_, _++_}
 use lib.ListN.{length, getD}
 use Rattle.exact.proofs.LawsChoice.{choose-yes, choose-no}
 use Rattle.format.specs.Sheet.{countedWords}
-use Rattle.format.specs.Sound.{All, Fits}
 use Rattle.format.specs.Tests.{bit0?}
-use Rattle.format.specs.Names.{ascii, decimal, joined, i32, dimension, ifBit0}
+use Rattle.format.specs.Names.{ascii, decimal, ifBit0}
 use Rattle.sheet.specs.Store.{wordsIn}
 use Rattle.sheet.specs.Lies.{Lies}
 use Rattle.sheet.proofs.LawsLies.{lies-front, lies-back, lies-first, lies-unwrapped}

@@ -1,14 +1,11 @@
 -- What was put before the names, step by step. Assumes nothing.
-use mathlib.Core.Path.{_≡_, refl, sym, ap, _∙_}
-use Prim.Native.Nat.{ℕ, suc, _+_, _%_, _^_, _<_}
-use native.Mathlib.Decide.{ℕ-discrete}
+use mathlib.Core.Path.{_≡_, refl, _∙_}
+use Prim.Native.Nat.{ℕ, _+_, _%_, _^_, _<_}
 use native.Mathlib.Omega.{arith}
 use mathlib.Core.List.{List, [], _∷_, _++_, map, append-assoc}
 use lib.ListN.{length, getD}
-use Rattle.exact.proofs.LawsChoice.{choose-no}
 use Rattle.format.specs.Sheet.{countedWords}
-use Rattle.format.specs.Sound.{All, Fits}
-use Rattle.format.specs.Names.{ascii, joined, i32, i64, dimension, tileDims, scalarNames, nameOfTag}
+use Rattle.format.specs.Names.{ascii, joined, i32, tileDims}
 use Rattle.sheet.specs.Store.{wordsIn}
 use Rattle.sheet.specs.Lies.{Lies}
 use Rattle.sheet.proofs.LawsLies.{lies-front, lies-first, lies-unwrapped}

@@ -1,5 +1,4 @@
 // What stands behind the names in a type's text, by kind. `behind` is the word behind the index.
-ghost use mathlib.Core.Path.{_≡_};
 ghost use mathlib.Core.List.{_++_};
 ghost use Rattle.format.specs.Kinds.{kindOf};
 ghost use Rattle.format.specs.Names.{ascii, decimal, ifBit0};

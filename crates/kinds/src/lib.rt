@@ -3,7 +3,6 @@
 mod endings;
 mod openings;
 
-ghost use mathlib.Core.Path.{_≡_};
 ghost use Rattle.format.specs.Kinds.{kindOf};
 ghost use Rattle.kinds.specs.Indices.{Passed, Named, CountedAt};
 ghost use Rattle.kinds.specs.Parts.{PartPut};

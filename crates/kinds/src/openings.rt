@@ -1,5 +1,4 @@
 // What stands before the names in a type's text, by kind: all of it, of a scalar.
-ghost use mathlib.Core.Path.{_≡_};
 ghost use Prim.Native.Nat.{_-_, _≤_};
 ghost use lib.ListN.{length, take, drop};
 ghost use Rattle.text.specs.Text.{Put};

@@ -5,27 +5,25 @@ use native.Mathlib.Decide.{decLe, decLt}
 use native.Mathlib.Nat.{sub-self}
 use native.Mathlib.Omega.{arith}
 use mathlib.Core.List.{List, []}
-use mathlib.Core.Option.{Option, none, some}
 use lib.ListN.{length, take, getD}
 use Rattle.exact.proofs.LawsChoice.{choose-yes, choose-no}
 use Rattle.enums.specs.Refusals as refusals
 use Rattle.encoding.specs.Out.{put}
 use Rattle.encoding.proofs.LawsOut.{put-same}
-use Rattle.format.specs.Read.{Read, accepted, refused, mapRead}
-use Rattle.format.specs.Sheet.{Frame, wordsOf}
+use Rattle.format.specs.Read.{Read, accepted, mapRead}
 use Rattle.format.specs.Names.{namesOf, nameIn}
 use Rattle.sheet.specs.Store.{wordsIn}
-use Rattle.judge.specs.Judge.{judgedBytes, notSound, judgedRead, summary}
+use Rattle.judge.specs.Judge.{judgedBytes, judgedRead, summary}
 use Rattle.judge.specs.declared.Judged.{Judged}
 use Rattle.judge.specs.declared.SheetJudged.{SheetJudged}
 use Rattle.judge.specs.declared.SheetJudged.the-variants as sheet
-use Rattle.judge.proofs.LawsPlaced.{stopped-none, Passes, passed-of}
+use Rattle.judge.proofs.LawsPlaced.{stopped-none, passed-of}
 use Rattle.judge.proofs.LawsBodies.{types-counted}
-use Rattle.text.specs.Text.{behind, Put}
+use Rattle.text.specs.Text.{Put}
 use Rattle.text.specs.declared.Pen.{Pen}
 use Rattle.text.specs.declared.Pen.the-variants.{Left, Full}
 use Rattle.text.proofs.LawsText.{behind-room, behind-short}
-use Rattle.names.specs.Names.{typesOf, typesIn, nameAt, fitting, nameFor, withName, nameRead}
+use Rattle.names.specs.Names.{typesIn, nameAt, fitting, nameFor, withName, nameRead}
 use Rattle.names.specs.declared.Named.{Named}
 use Rattle.names.specs.declared.Named.the-variants as told
 use Rattle.names.proofs.LawsRows.{Known, known, frame-known}

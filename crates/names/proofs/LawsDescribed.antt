@@ -12,7 +12,7 @@ use Rattle.enums.specs.declared.VersionClass.{VersionClass}
 use Rattle.enums.specs.Types.{tagPointer, tagTile, tagTensorView, tagPartitionView, tagFunc, tagGatherScatterView, tagStridedView}
 use Rattle.format.specs.Tables.{TypeRow, plain, pointer, tile, tensorView, partitionView, gatherScatterView, stridedView, function}
 use Rattle.format.specs.Types.{plainTags, among}
-use Rattle.format.specs.Kinds.{Kind, kindOf, a-plain}
+use Rattle.format.specs.Kinds.{kindOf}
 use Rattle.format.specs.Sheet.{countedWords, fieldWords}
 use Rattle.format.specs.Sound.{SoundType}
 use Rattle.format.specs.Names.{ascii, joined, dimension, i32, tileDims, named, listed, typeText, namesOf, scalarNames, nameOfTag}

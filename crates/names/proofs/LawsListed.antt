@@ -1,15 +1,13 @@
 -- The names of a list, one behind the other, and the numbers that fall. Assumes nothing.
-use mathlib.Core.Path.{_≡_, refl, sym, ap, ap₂, _∙_, subst}
-use mathlib.Core.Logic.{_⊎_, inl, inr}
+use mathlib.Core.Path.{_≡_, refl, sym, ap, _∙_}
 use Prim.Native.Nat.{ℕ, zero, suc, _+_, _-_, _*_, _^_, _≤_, _<_}
 use native.Mathlib.Nat.{not-suc-le-zero}
 use native.Mathlib.Numerals.{add-one}
 use native.Mathlib.Omega.{arith}
-use mathlib.Core.List.{List, [], _∷_, _++_, map, append-nil, append-assoc}
+use mathlib.Core.List.{List, [], _∷_, _++_, append-nil, append-assoc}
 use lib.ListN.{length, take, drop, getD, length-drop, List·getD-eq-default}
 use lib.Seq.{drop-cons, getD-take, length-take-le}
-use Rattle.exact.specs.Tiling.{join}
-use Rattle.format.specs.Names.{ascii, joined, named, listed, namesOf}
+use Rattle.format.specs.Names.{ascii, named, listed, namesOf}
 use Rattle.format.proofs.LawsNames.{length-names}
 use Rattle.sheet.specs.Store.{wordsIn}
 use Rattle.text.specs.Text.{Put}

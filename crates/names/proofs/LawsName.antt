@@ -1,7 +1,6 @@
 -- The name of a row that is there, from what was put of it. Assumes nothing.
-use mathlib.Core.Path.{_≡_, sym, _∙_}
-use Prim.Native.Nat.{ℕ, _+_, _/_, _^_, _≤_, _<_}
-use native.Mathlib.Omega.{arith}
+use mathlib.Core.Path.{_≡_, sym}
+use Prim.Native.Nat.{ℕ, _+_, _≤_, _<_}
 use mathlib.Core.List.{List, []}
 use lib.ListN.{length, getD}
 use Rattle.enums.specs.declared.VersionClass.{VersionClass}
@@ -12,7 +11,6 @@ use Rattle.format.specs.Sound.{SoundType, classIn}
 use Rattle.format.specs.Names.{ascii}
 use Rattle.format.proofs.LawsNames.{name-at}
 use Rattle.sheet.specs.Store.{wordsIn}
-use Rattle.sheet.proofs.LawsWords.{length-wordsIn}
 use Rattle.text.specs.Text.{Put}
 use Rattle.text.specs.declared.Pen.{Pen}
 use Rattle.text.proofs.LawsText.{put-as}

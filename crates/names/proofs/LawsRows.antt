@@ -1,17 +1,15 @@
 -- Where the rows of types stand in a sheet that has them. Assumes nothing.
-use mathlib.Core.Path.{_≡_, refl, sym, ap, ap₂, _∙_, subst}
-use Prim.Native.Nat.{ℕ, zero, suc, _+_, _-_, _/_, _^_, _≤_, _<_}
+use mathlib.Core.Path.{_≡_, refl, sym, ap, _∙_, subst}
+use Prim.Native.Nat.{ℕ, zero, suc, _+_, _-_, _/_, _^_, _<_}
 use native.Mathlib.Nat.{not-suc-le-zero}
-use native.Mathlib.Numerals.{add-one}
 use native.Mathlib.Omega.{arith}
 use mathlib.Core.List.{List, [], _∷_, _++_, map}
 use mathlib.Core.Option.{Option, none, some}
 use lib.ListN.{length, drop, getD}
 use lib.Seq.{drop-cons}
 use Rattle.exact.specs.Tiling.{join}
-use Rattle.enums.specs.declared.VersionClass.{VersionClass}
 use Rattle.format.specs.Tables.{TypeRow, plain}
-use Rattle.format.specs.Sheet.{Frame, countedWords, fieldWords, typeWords, wordsOf}
+use Rattle.format.specs.Sheet.{Frame, fieldWords, typeWords, wordsOf}
 use Rattle.format.specs.Sound.{All, SoundType, classIn}
 use Rattle.sheet.specs.Store.{wordsIn}
 use Rattle.sheet.specs.Lies.{Lies}
@@ -19,7 +17,7 @@ use Rattle.sheet.proofs.LawsWords.{length-wordsIn}
 use Rattle.sheet.proofs.LawsLies.{lies-front, lies-back, lies-first, lies-inside}
 use Rattle.judge.specs.Judge.{judgedBytes}
 use Rattle.judge.proofs.LawsPlaced.{judged-holds}
-use Rattle.judge.proofs.LawsBodies.{types-lie, types-counted}
+use Rattle.judge.proofs.LawsBodies.{types-lie}
 use Rattle.names.specs.Names.{typesOf, typesIn, RowAt}
 
 -- A sheet that has a row of types is well-formed: its words are those of a frame with these types.

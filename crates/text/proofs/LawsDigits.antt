@@ -5,7 +5,7 @@ use native.Mathlib.Decide.{decLt}
 use native.Mathlib.Nat.{pow-suc}
 use native.Mathlib.Omega.{arith}
 use mathlib.Core.List.{List, [], _∷_, _++_, append-assoc}
-use lib.ListN.{length, take, drop, getD, set, length-set, length-drop}
+use lib.ListN.{length, take, drop, set, length-set, length-drop}
 use lib.Seq.{drop-cons, getD-set-same, drop-set-lt, take-all}
 use Rattle.exact.proofs.LawsChoice.{choose-yes, choose-no}
 use Rattle.format.specs.Names.{digits}

@@ -1,9 +1,8 @@
 -- Numbers that were put as text: signed ones, those of a list, and lists of them. Assumes nothing.
 use mathlib.Core.Path.{_≡_, refl, sym, ap, ap₂, _∙_, subst}
 use Prim.Native.String.{String}
-use Prim.Native.Nat.{ℕ, zero, suc, _+_, _-_, _*_, _/_, _%_, _^_, _≤_, _<_}
+use Prim.Native.Nat.{ℕ, suc, _+_, _-_, _*_, _/_, _%_, _^_, _≤_, _<_}
 use native.Mathlib.Decide.{decLt, ℕ-discrete}
-use native.Mathlib.Nat.{mod-eq-of-lt}
 use native.Mathlib.Omega.{arith}
 use mathlib.Core.List.{List, [], _∷_, _++_, map}
 use lib.ListN.{length, getD}
@@ -19,7 +18,7 @@ use Rattle.sheet.proofs.LawsLies.{lies-first, lies-back, lies-inside}
 use Rattle.text.specs.Text.{Put}
 use Rattle.text.specs.Numbers.{SignedPut, numberText, Fitting, NumberPut, separated, between, MorePut, ListPut}
 use Rattle.text.specs.declared.Pen.{Pen}
-use Rattle.text.specs.declared.Pen.the-variants.{Left, Full}
+use Rattle.text.specs.declared.Pen.the-variants.{Full}
 use Rattle.text.specs.declared.numbers.Number.{Number}
 use Rattle.text.specs.declared.numbers.Number.the-variants.{I32, I64, Dynamic}
 use Rattle.text.proofs.LawsText.{put-then, put-as, put-nothing, put-stopped}

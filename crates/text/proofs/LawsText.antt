@@ -8,7 +8,7 @@ use mathlib.Core.List.{List, [], _++_}
 use lib.ListN.{length, length-append}
 use Rattle.exact.proofs.LawsChoice.{choose-yes, choose-no}
 use Rattle.encoding.specs.Out.{put}
-use Rattle.encoding.proofs.LawsOut.{put-nil, put-append, length-put}
+use Rattle.encoding.proofs.LawsOut.{put-nil, put-append}
 use Rattle.text.specs.Text.{behind, Put}
 use Rattle.text.specs.declared.Pen.{Pen}
 use Rattle.text.specs.declared.Pen.the-variants.{Left, Full}

@@ -7,7 +7,7 @@ use lib.ListN.{length}
 use Rattle.exact.specs.Tiling.{join}
 use Rattle.format.specs.Sound.{All}
 use Rattle.format.specs.Sheet.{countedWords}
-use Rattle.format.specs.Names.{signed, dynamic, dimension, i32, i64}
+use Rattle.format.specs.Names.{signed, dimension, i32, i64}
 use Rattle.sheet.specs.Store.{wordsIn}
 use Rattle.sheet.specs.Lies.{Lies}
 use Rattle.text.specs.Text.{Put}

@@ -2,7 +2,6 @@
 // of no bytes, it puts nothing and counts the same, and it stops as soon as the room is used up.
 pub mod numbers;
 
-ghost use mathlib.Core.Path.{_≡_};
 ghost use mathlib.Core.List.{[], _∷_};
 ghost use Rattle.text.specs.Text.{Put};
 

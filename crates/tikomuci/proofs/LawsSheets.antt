@@ -6,11 +6,11 @@ use native.Mathlib.Omega.{arith}
 use mathlib.Core.List.{List}
 use lib.ListN.{length}
 use Rattle.format.specs.Read.{Read, accepted, refused, mapRead}
-use Rattle.images.specs.Written.{imageSize, lengthOf, inRoom}
+use Rattle.images.specs.Written.{imageSize}
 use Rattle.images.specs.declared.Imaged.{Imaged}
 use Rattle.names.specs.Names.{nameFor, withName, nameRead}
 use Rattle.names.specs.declared.Named.{Named}
-use Rattle.writer.specs.Written.{writing, writingAlone, WritePost, ImagePost}
+use Rattle.writer.specs.Written.{WritePost, ImagePost}
 use Rattle.tikomuci.specs.declared.Answer.{Answer}
 use Rattle.tikomuci.specs.Sheets.{size, SheetWritten, SheetImaged, TypeNamed}
 use Rattle.tikomuci.proofs.LawsTold.{room-told, length-told, size-refused}

@@ -1,10 +1,10 @@
 -- The proof of the cycle of calls {describe_list, describe_type}. A list of a row calls types of earlier rows and the rest of
 -- itself, and a type calls lists of its own row: row number and list items left fall. Assumes nothing.
-use mathlib.Core.Path.{_≡_, refl, sym, ap, _∙_}
+use mathlib.Core.Path.{refl, ap, _∙_}
 use mathlib.Core.Logic.{⊎-elim}
 use Prim.Native.Nat.{ℕ, _<_}
 use native.Mathlib.Omega.{arith}
-use lib.ListN.{length, getD}
+use lib.ListN.{getD}
 use Rattle.format.specs.Names.{named}
 use Rattle.sheet.specs.Store.{wordsIn}
 use Rattle.sheet.proofs.LawsWords.{length-wordsIn}

@@ -1,6 +1,6 @@
 -- `spell` puts the digits from the last one back: those that are left have room before `at`, and all together are the
 -- number's. Assumes nothing.
-use mathlib.Core.Path.{_≡_, refl, sym, ap, subst, _∙_}
+use mathlib.Core.Path.{_≡_, sym, ap, subst, _∙_}
 use Prim.Native.Nat.{suc, _-_, _/_, _^_, _<_}
 use native.Mathlib.Omega.{arith}
 use mathlib.Core.List.{_++_, append-nil}
