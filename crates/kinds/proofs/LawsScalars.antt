@@ -1,22 +1,20 @@
 -- The names of the scalars, cut out of one text: one computed test over the tags, and the rule at each. Assumes nothing.
-use mathlib.Core.Path.{_≡_, refl, ap, ap₂, _∙_}
+use mathlib.Core.Path.{_≡_, refl, sym, ap₂, _∙_}
 use Prim.Native.Nat.{ℕ, zero, suc, _+_, _-_, _≤_, _<_}
 use native.Mathlib.Nat.{not-suc-le-zero}
 use native.Mathlib.Numerals.{add-one}
 use native.Mathlib.Omega.{arith}
 use native.Mathlib.Decide.{ℕ-discrete}
-use mathlib.Core.Bool.{Bool, true, false, cond, _&&_, and-eq-true-iff, false≢true}
+use Prim.Native.String.{String}
+use mathlib.Core.Bool.{Bool, true, false, _&&_, _||_, and-eq-true-iff, false≢true}
 use mathlib.Core.List.{List, [], _∷_}
 use lib.Dec.{eqb, ltb, leb}
 use lib.ListN.{length, take, drop, getD}
-use borrow.Author.Tests.{eqb-true, leb-true, ne-eqb}
+use borrow.Author.Tests.{eqb-true, leb-true, ne-eqb, le-ltb}
+use Rattle.enums.specs.Types.{tagF8E5M3FNU}
 use Rattle.exact.specs.Choice.{choose}
-use Rattle.format.specs.Types.{plainTags, among}
+use Rattle.exact.proofs.LawsChoice.{choose-no}
 use Rattle.format.specs.Names.{ascii, scalarNames, nameOfTag}
-use Rattle.text.specs.Text.{Put}
-use Rattle.text.specs.declared.Pen.{Pen}
-use Rattle.text.proofs.LawsText.{put-as}
-use Rattle.kinds.specs.Openings.{ScalarPut}
 
 abbrev pub starts : List ℕ
 starts =
@@ -65,37 +63,54 @@ same-text (x ∷ xs) (y ∷ ys) e =
     let b = and-eq-true-iff (eqb x y) (same xs ys) .0 e in
     ap₂ (λ z zs. z ∷ zs) (eqb-true x y (b .0)) (same-text xs ys (b .1))
 
--- A test that each of these passes is passed by whatever is among them.
-abbrev each : (ℕ → Bool) → List ℕ → Bool
-each f [] = true
-each f (u ∷ us) = f u && each f us
+-- A test that each number below n passes.
+abbrev below : (ℕ → Bool) → ℕ → Bool
+below f zero = true
+below f (suc n) = f n && below f n
 
-among-each : (f : ℕ → Bool) (us : List ℕ) → each f us ≡ true → (t : ℕ) → among t us ≡ true → f t ≡ true
-among-each f [] e t h = absurd (false≢true h)
-among-each f (u ∷ us) e t h =
-    let b = and-eq-true-iff (f u) (each f us) .0 e in
-    elim (ℕ-discrete t u) [
+below-each : (f : ℕ → Bool) (n : ℕ) → below f n ≡ true → (t : ℕ) → t < n → f t ≡ true
+below-each f zero e t h = absurd (not-suc-le-zero h)
+below-each f (suc n) e t h =
+    let b = and-eq-true-iff (f n) (below f n) .0 e in
+    elim (ℕ-discrete t n) [
       | yes q ↦ rw q (b .0)
-      | no q ↦ among-each f us (b .1) t (rw (ne-eqb t u q) at h)
+      | no q ↦ below-each f n (b .1) t (omega arith)
     ]
 
--- The place of a tag among the names, and what is cut out there.
-abbrev pub place : ℕ → ℕ
-place t = cond (ltb t 23) t 23
-
+-- What is cut out at a place. At each tag below 23, and at that of f8e5m3fnu, it is the tag's name ..
 abbrev pub cutAt : ℕ → List ℕ
 cutAt i = take (getD starts (i + 1) 0 - getD starts i 0) (drop (getD starts i 0) names)
 
 abbrev named? : ℕ → Bool
-named? t = same (cutAt (place t)) (nameOfTag scalarNames t)
+named? t = same (cutAt t) (nameOfTag scalarNames t)
 
-all-named : each named? plainTags ≡ true
+all-named : below named? 23 ≡ true
 unfolding nameOfTag choose ℕ-discrete
 all-named = refl
 
-name-cut : (t : ℕ) → among t plainTags ≡ true → cutAt (place t) ≡ nameOfTag scalarNames t
-name-cut t h = same-text (cutAt (place t)) (nameOfTag scalarNames t) (among-each named? plainTags all-named t h)
+pub name-cut : (t : ℕ) → t < 23 → cutAt t ≡ nameOfTag scalarNames t
+name-cut t h = same-text (cutAt t) (nameOfTag scalarNames t) (below-each named? 23 all-named t h)
 
--- What is cut out at the place of a tag was put.
-pub scalar-put : (tag i : ℕ) {p q : Pen} {out out' : List ℕ} → i ≡ place tag → Put (cutAt i) p out out' q → ScalarPut tag p out out' q
-scalar-put tag i e x = record { each = λ h. put-as (ap cutAt e ∙ name-cut tag h) x }
+pub last-cut : cutAt 23 ≡ nameOfTag scalarNames tagF8E5M3FNU
+unfolding nameOfTag choose ℕ-discrete
+last-cut = refl
+
+-- .. and no other tag has one: all that have are among these.
+abbrev known? : ℕ → Bool
+known? t = ltb t 23 || eqb t tagF8E5M3FNU
+
+abbrev all-known? : List (ℕ × String) → Bool
+all-known? [] = true
+all-known? (n ∷ ns) = known? (n .0) && all-known? ns
+
+unnamed : (ns : List (ℕ × String)) → all-known? ns ≡ true → (t : ℕ) → known? t ≡ false → nameOfTag ns t ≡ []
+unfolding nameOfTag
+unnamed [] e t h = refl
+unnamed (n ∷ ns) e t h =
+    let b = and-eq-true-iff (known? (n .0)) (all-known? ns) .0 e in
+    choose-no (ℕ-discrete t (n .0)) _ _ (λ q. false≢true (sym h ∙ rw q (b .0))) ∙ unnamed ns (b .1) t h
+
+pub no-name : (t : ℕ) → 22 < t → ¬ (t ≡ tagF8E5M3FNU) → [] ≡ nameOfTag scalarNames t
+no-name t h n =
+    let k : known? t ≡ false = rw (le-ltb t 23 h, ne-eqb t tagF8E5M3FNU n) in
+    sym (unnamed scalarNames refl t k)

@@ -1,4 +1,2 @@
 pub mod Indices
-pub mod Openings
-pub mod Endings
 pub mod Parts

@@ -1,9 +1,13 @@
 // What stands behind the names in a type's text, by kind. `behind` is the word behind the index.
+ghost use mathlib.Core.Path.{_≡_};
 ghost use mathlib.Core.List.{_++_};
-ghost use Rattle.format.specs.Kinds.{kindOf};
+ghost use Prim.Native.Nat.{_+_};
+ghost use Rattle.format.specs.Kinds.{a-pointer, a-tensor-view, a-partition-view, a-gather-scatter-view, a-strided-view, kindOf};
 ghost use Rattle.format.specs.Names.{ascii, decimal, ifBit0};
+ghost use Rattle.sheet.specs.Store.{wordsIn};
 ghost use Rattle.text.specs.Text.{Put};
-ghost use Rattle.kinds.specs.Endings.{PointerEnding, TensorViewEnding, PartitionViewEnding, GatherScatterViewEnding, StridedViewEnding, FlagsAt, Ending};
+ghost use Rattle.text.specs.Counted.{word};
+ghost use Rattle.kinds.specs.Parts.{ending};
 use crate::after_list;
 use text::Pen;
 use text::numbers::Number;
@@ -33,13 +37,13 @@ fn close(flags: u64, name: &[u8], value: u64, out: &mut [u8], pen: Pen) -> Pen
 
 // The flags of a row, which stand behind its tag.
 fn flags_at(sheet: &[u8], at: usize) -> u64
-    ensures { λ r. ⌜ FlagsAt (now (sheet .entry)) at r ⌝ }
+    ensures { λ r. ⌜ r ≡ word (wordsIn (now (sheet .entry))) (at + 1) ⌝ }
 {
     sheet::word_at(sheet, std::num::wrapping_add_usize(at, 1))
 }
 
 fn pointer(sheet: &[u8], at: usize, behind: usize, out: &mut [u8], pen: Pen) -> Pen
-    ensures { λ r. ⌜ PointerEnding (now (sheet .entry)) at behind pen (now (out .entry)) (now (out .exit)) r ⌝ }
+    ensures { λ r. ⌜ Put (ending a-pointer (wordsIn (now (sheet .entry))) at behind) pen (now (out .entry)) (now (out .exit)) r ⌝ }
 {
     let attribute = sheet::word_at(sheet, behind);
     close(flags_at(sheet, at), b", ptr_attr=", attribute, out, pen)
@@ -47,7 +51,7 @@ fn pointer(sheet: &[u8], at: usize, behind: usize, out: &mut [u8], pen: Pen) -> 
 
 // Behind the element of a tensor view stand its shape, its strides and its attribute.
 fn tensor_view(sheet: &[u8], at: usize, behind: usize, out: &mut [u8], pen: Pen) -> Pen
-    ensures { λ r. ⌜ TensorViewEnding (now (sheet .entry)) at behind pen (now (out .entry)) (now (out .exit)) r ⌝ }
+    ensures { λ r. ⌜ Put (ending a-tensor-view (wordsIn (now (sheet .entry))) at behind) pen (now (out .entry)) (now (out .exit)) r ⌝ }
 {
     let word = after_list(sheet, behind);
     let opened = put_text(out, pen, b", strides=[");
@@ -58,14 +62,14 @@ fn tensor_view(sheet: &[u8], at: usize, behind: usize, out: &mut [u8], pen: Pen)
 }
 
 fn partition_view(sheet: &[u8], at: usize, behind: usize, out: &mut [u8], pen: Pen) -> Pen
-    ensures { λ r. ⌜ PartitionViewEnding (now (sheet .entry)) at behind pen (now (out .entry)) (now (out .exit)) r ⌝ }
+    ensures { λ r. ⌜ Put (ending a-partition-view (wordsIn (now (sheet .entry))) at behind) pen (now (out .entry)) (now (out .exit)) r ⌝ }
 {
     let padding = sheet::word_at(sheet, after_list(sheet, behind));
     close(flags_at(sheet, at), b", padding=", padding, out, pen)
 }
 
 fn gather_scatter_view(sheet: &[u8], at: usize, behind: usize, out: &mut [u8], pen: Pen) -> Pen
-    ensures { λ r. ⌜ GatherScatterViewEnding (now (sheet .entry)) at behind pen (now (out .entry)) (now (out .exit)) r ⌝ }
+    ensures { λ r. ⌜ Put (ending a-gather-scatter-view (wordsIn (now (sheet .entry))) at behind) pen (now (out .entry)) (now (out .exit)) r ⌝ }
 {
     let named = put_text(out, pen, b", sparse_dim=");
     let sparse = put_decimal(out, named, sheet::word_at(sheet, behind));
@@ -74,7 +78,7 @@ fn gather_scatter_view(sheet: &[u8], at: usize, behind: usize, out: &mut [u8], p
 }
 
 fn strided_view(sheet: &[u8], at: usize, behind: usize, out: &mut [u8], pen: Pen) -> Pen
-    ensures { λ r. ⌜ StridedViewEnding (now (sheet .entry)) at behind pen (now (out .entry)) (now (out .exit)) r ⌝ }
+    ensures { λ r. ⌜ Put (ending a-strided-view (wordsIn (now (sheet .entry))) at behind) pen (now (out .entry)) (now (out .exit)) r ⌝ }
 {
     let opened = put_text(out, pen, b", dim_map=[");
     let dims = put_list(sheet, behind, Number::I32, b',', out, opened);
@@ -85,7 +89,7 @@ fn strided_view(sheet: &[u8], at: usize, behind: usize, out: &mut [u8], pen: Pen
 
 // What stands behind the names, by kind; of a function type, up to its results.
 pub fn put_ending(sheet: &[u8], tag: u64, at: usize, behind: usize, out: &mut [u8], pen: Pen) -> Pen
-    ensures { λ r. ⌜ Ending (kindOf tag) (now (sheet .entry)) at behind pen (now (out .entry)) (now (out .exit)) r ⌝ }
+    ensures { λ r. ⌜ Put (ending (kindOf tag) (wordsIn (now (sheet .entry))) at behind) pen (now (out .entry)) (now (out .exit)) r ⌝ }
 {
     match tag {
         12 => pointer(sheet, at, behind, out, pen),

@@ -3,9 +3,14 @@
 mod endings;
 mod openings;
 
+ghost use mathlib.Core.Path.{_≡_};
+ghost use Prim.Native.Nat.{_%_, _^_};
 ghost use Rattle.format.specs.Kinds.{kindOf};
-ghost use Rattle.kinds.specs.Indices.{Passed, Named, CountedAt};
-ghost use Rattle.kinds.specs.Parts.{PartPut};
+ghost use Rattle.sheet.specs.Store.{wordsIn};
+ghost use Rattle.text.specs.Text.{Put};
+ghost use Rattle.text.specs.Counted.{afterList};
+ghost use Rattle.kinds.specs.Indices.{countedFrom, indices};
+ghost use Rattle.kinds.specs.Parts.{partText};
 use text::Pen;
 
 // A part of a row's text without names: before them, or behind them, whose word behind the index is then told.
@@ -22,7 +27,7 @@ pub struct Indices {
 
 // The word behind a list, whose count stands at a word.
 fn after_list(sheet: &[u8], word: usize) -> usize
-    ensures { λ r. ⌜ Passed (now (sheet .entry)) word r ⌝ }
+    ensures { λ r. ⌜ r ≡ afterList (wordsIn (now (sheet .entry))) word % 2 ^ 64 ⌝ }
 {
     let first = std::num::wrapping_add_usize(word, 1);
     std::num::wrapping_add_usize(first, sheet::word_at(sheet, word) as usize)
@@ -30,7 +35,7 @@ fn after_list(sheet: &[u8], word: usize) -> usize
 
 // The indices of a list, whose count stands at a word.
 pub fn counted_at(sheet: &[u8], word: usize) -> Indices
-    ensures { λ r. ⌜ CountedAt (now (sheet .entry)) word r ⌝ }
+    ensures { λ r. ⌜ r ≡ countedFrom (wordsIn (now (sheet .entry))) word ⌝ }
 {
     Indices {
         word: std::num::wrapping_add_usize(word, 1),
@@ -41,7 +46,7 @@ pub fn counted_at(sheet: &[u8], word: usize) -> Indices
 // The indices that a row's text names first, by kind: an element, a view behind its shape and, of a strided view, its
 // strides; the inputs of a function type.
 pub fn indices_at(sheet: &[u8], tag: u64, at: usize) -> Indices
-    ensures { λ r. ⌜ Named (kindOf tag) (now (sheet .entry)) at r ⌝ }
+    ensures { λ r. ⌜ r ≡ indices (kindOf tag) (wordsIn (now (sheet .entry))) at ⌝ }
 {
     let first = std::num::wrapping_add_usize(at, 1);
     let second = std::num::wrapping_add_usize(at, 2);
@@ -70,7 +75,7 @@ pub fn indices_at(sheet: &[u8], tag: u64, at: usize) -> Indices
 // Puts a part. Whoever describes types inside types has one function to call for both, so that what putting them takes of
 // the stack is not taken again at each level.
 pub fn put_part(sheet: &[u8], tag: u64, at: usize, part: Part, out: &mut [u8], pen: Pen) -> Pen
-    ensures { λ r. ⌜ PartPut part tag (now (sheet .entry)) at pen (now (out .entry)) (now (out .exit)) r ⌝ }
+    ensures { λ r. ⌜ Put (partText part tag (wordsIn (now (sheet .entry))) at) pen (now (out .entry)) (now (out .exit)) r ⌝ }
 {
     match part {
         Part::Opening => openings::put_opening(sheet, tag, at, out, pen),

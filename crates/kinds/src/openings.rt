@@ -1,10 +1,15 @@
 // What stands before the names in a type's text, by kind: all of it, of a scalar.
+ghost use mathlib.Core.List.{_++_};
 ghost use Prim.Native.Nat.{_-_, _≤_};
 ghost use lib.ListN.{length, take, drop};
+ghost use Rattle.enums.specs.Types.{tagTile, tagTensorView, tagStridedView};
+ghost use Rattle.format.specs.Kinds.{a-tile, a-tensor-view, a-strided-view, kindOf};
+ghost use Rattle.format.specs.Names.{ascii, scalarNames, nameOfTag};
+ghost use Rattle.sheet.specs.Store.{wordsIn};
 ghost use Rattle.text.specs.Text.{Put};
-ghost use Rattle.format.specs.Kinds.{kindOf};
-ghost use Rattle.kinds.specs.Openings.{ScalarPut, TileOpening, TensorViewOpening, ShapePut, ViewOpening, StridedViewOpening, Opening};
+ghost use Rattle.kinds.specs.Parts.{shaped, opening};
 use crate::after_list;
+use enums::TypeTag;
 use text::Pen;
 use text::numbers::Number;
 use text::numbers::put_list;
@@ -49,18 +54,24 @@ fn part(text: &[u8], start: usize, end: usize, out: &mut [u8], pen: Pen) -> Pen
     put_text(out, pen, &text[start..end])
 }
 
-// The name of a scalar, or of Token.
+// The name of a scalar, or of Token; nothing, of another tag.
 fn scalar(tag: u64, out: &mut [u8], pen: Pen) -> Pen
-    ensures { λ r. ⌜ ScalarPut tag pen (now (out .entry)) (now (out .exit)) r ⌝ }
+    ensures { λ r. ⌜ Put (nameOfTag scalarNames tag) pen (now (out .entry)) (now (out .exit)) r ⌝ }
 {
     let names = b"i1i8i16i32i64f16bf16f32tf32f64f8e4m3fnf8e5m2tokenf8e8m0fnuf4e2m1fni4f8e5m3fnu";
-    let i = if tag < 23 { tag as usize } else { 23 };
+    if tag == TypeTag::F8E5M3FNU as u64 {
+        return part(names, STARTS[23], STARTS[24], out, pen);
+    }
+    if 22 < tag {
+        return pen;
+    }
+    let i = tag as usize;
     part(names, STARTS[i], STARTS[i + 1], out, pen)
 }
 
 // The dims and their x. A tile of rank 0 has neither.
 fn tile(sheet: &[u8], at: usize, out: &mut [u8], pen: Pen) -> Pen
-    ensures { λ r. ⌜ TileOpening (now (sheet .entry)) at pen (now (out .entry)) (now (out .exit)) r ⌝ }
+    ensures { λ r. ⌜ Put (opening a-tile tagTile (wordsIn (now (sheet .entry))) at) pen (now (out .entry)) (now (out .exit)) r ⌝ }
 {
     let rank = std::num::wrapping_add_usize(at, 2);
     let opened = put_text(out, pen, b"tile<");
@@ -73,7 +84,7 @@ fn tile(sheet: &[u8], at: usize, out: &mut [u8], pen: Pen) -> Pen
 
 // The shape and an x, which a tensor view of rank 0 has as well.
 fn tensor_view(sheet: &[u8], at: usize, out: &mut [u8], pen: Pen) -> Pen
-    ensures { λ r. ⌜ TensorViewOpening (now (sheet .entry)) at pen (now (out .entry)) (now (out .exit)) r ⌝ }
+    ensures { λ r. ⌜ Put (opening a-tensor-view tagTensorView (wordsIn (now (sheet .entry))) at) pen (now (out .entry)) (now (out .exit)) r ⌝ }
 {
     let rank = std::num::wrapping_add_usize(at, 3);
     let opened = put_text(out, pen, b"tensor_view<");
@@ -83,7 +94,7 @@ fn tensor_view(sheet: &[u8], at: usize, out: &mut [u8], pen: Pen) -> Pen
 
 // The name of a view's kind, and the shape of its tile.
 fn shape(sheet: &[u8], at: usize, kind: &[u8], out: &mut [u8], pen: Pen) -> Pen
-    ensures { λ r. ⌜ ShapePut (now (kind .entry)) (now (sheet .entry)) at pen (now (out .entry)) (now (out .exit)) r ⌝ }
+    ensures { λ r. ⌜ Put (shaped (now (kind .entry)) (wordsIn (now (sheet .entry))) at) pen (now (out .entry)) (now (out .exit)) r ⌝ }
 {
     let rank = std::num::wrapping_add_usize(at, 2);
     let opened = put_text(out, pen, kind);
@@ -91,14 +102,14 @@ fn shape(sheet: &[u8], at: usize, kind: &[u8], out: &mut [u8], pen: Pen) -> Pen
 }
 
 fn view(sheet: &[u8], at: usize, kind: &[u8], out: &mut [u8], pen: Pen) -> Pen
-    ensures { λ r. ⌜ ViewOpening (now (kind .entry)) (now (sheet .entry)) at pen (now (out .entry)) (now (out .exit)) r ⌝ }
+    ensures { λ r. ⌜ Put (shaped (now (kind .entry)) (wordsIn (now (sheet .entry))) at ++ ascii "), tv=") pen (now (out .entry)) (now (out .exit)) r ⌝ }
 {
     let shaped = shape(sheet, at, kind, out, pen);
     put_text(out, shaped, b"), tv=")
 }
 
 fn strided_view(sheet: &[u8], at: usize, out: &mut [u8], pen: Pen) -> Pen
-    ensures { λ r. ⌜ StridedViewOpening (now (sheet .entry)) at pen (now (out .entry)) (now (out .exit)) r ⌝ }
+    ensures { λ r. ⌜ Put (opening a-strided-view tagStridedView (wordsIn (now (sheet .entry))) at) pen (now (out .entry)) (now (out .exit)) r ⌝ }
 {
     let shaped = shape(sheet, at, b"strided_view<tile=(", out, pen);
     let opened = put_text(out, shaped, b"), traversal_strides=[");
@@ -109,7 +120,7 @@ fn strided_view(sheet: &[u8], at: usize, out: &mut [u8], pen: Pen) -> Pen
 
 // What stands before the names, by kind.
 pub fn put_opening(sheet: &[u8], tag: u64, at: usize, out: &mut [u8], pen: Pen) -> Pen
-    ensures { λ r. ⌜ Opening (kindOf tag) tag (now (sheet .entry)) at pen (now (out .entry)) (now (out .exit)) r ⌝ }
+    ensures { λ r. ⌜ Put (opening (kindOf tag) tag (wordsIn (now (sheet .entry))) at) pen (now (out .entry)) (now (out .exit)) r ⌝ }
 {
     match tag {
         12 => put_text(out, pen, b"ptr<"),

@@ -1,11 +1,15 @@
 -- What is answered of a row, by what was measured and put. Assumes nothing.
 use mathlib.Core.Path.{_≡_, refl, sym, ap, ap₂, _∙_, subst}
+use mathlib.Core.Logic.{⊎-elim}
 use Prim.Native.Nat.{ℕ, _-_, _≤_, _<_}
 use native.Mathlib.Decide.{decLe, decLt}
-use native.Mathlib.Nat.{sub-self}
+use native.Mathlib.Nat.{zero-add}
 use native.Mathlib.Omega.{arith}
-use mathlib.Core.List.{List, []}
+use mathlib.Core.List.{List, [], _∷_}
 use lib.ListN.{length, take, getD}
+use lib.Seq.{take-all}
+use denote.Enum.Declared.{tagOf}
+use types.Run.{OneOf}
 use Rattle.exact.proofs.LawsChoice.{choose-yes, choose-no}
 use Rattle.enums.specs.Refusals as refusals
 use Rattle.encoding.specs.Out.{put}
@@ -21,8 +25,9 @@ use Rattle.judge.proofs.LawsPlaced.{stopped-none, passed-of}
 use Rattle.judge.proofs.LawsBodies.{types-counted}
 use Rattle.text.specs.Text.{Put}
 use Rattle.text.specs.declared.Pen.{Pen}
-use Rattle.text.specs.declared.Pen.the-variants.{Left, Full}
-use Rattle.text.proofs.LawsText.{behind-room, behind-short}
+use Rattle.text.proofs.Pen.{the-type as pen-type}
+use Rattle.text.specs.declared.Pen.the-variants.{At, Counting}
+use Rattle.text.proofs.LawsText.{behind-room, behind-short, counted-room, counted-short, filled-at, filled-counting}
 use Rattle.names.specs.Names.{typesIn, nameAt, fitting, nameFor, withName, nameRead}
 use Rattle.names.specs.declared.Named.{Named}
 use Rattle.names.specs.declared.Named.the-variants as told
@@ -46,8 +51,9 @@ name-there s row h =
     ap (λ o. nameIn o row) (k .judged) ∙ choose-yes (decLt row (length (k .frame .types))) _ _ l ∙
     ap (λ ts. accepted (getD (namesOf ts) row [])) (sym (k .types))
 
-not-left : (n : ℕ) → Full ≡ Left n → ⊥
-not-left n e = let z : _≡_ {A = ℕ} 0 1 = cc in omega arith
+-- A pen that counts is neither at a place nor full.
+not-counting : OneOf (0 ∷ 2 ∷ []) 1 → ⊥
+not-counting f = ⊎-elim (λ e. omega (arith, e)) (λ e. omega (arith, e)) f
 
 module _ (s : List ℕ) (row : ℕ) (h : row < length (typesIn s)) where
   abbrev name : List ℕ
@@ -67,54 +73,65 @@ module _ (s : List ℕ) (row : ℕ) (h : row < length (typesIn s)) where
       answered-by s row out out' (told.Bytes n) _
       (ap (fitting (length out)) (name-there s row h) ∙ choose-yes (decLe (length name) (length out)) _ _ (omega arith)) (ap accepted e) o
 
-  module _ (room : ℕ) {part part' : List ℕ} {q : Pen} (m : Put name (Left room) part part' q) where
-    -- What a pen tells that was behind the name.
-    full-of : q ≡ Full → ¬ (length name ≤ room)
-    full-of f g = not-left (room - length name) (sym f ∙ m .pen ∙ behind-room room name g)
+  -- A name that was counted within the buffer's room: it has none, where the pen counts no more ..
+  module _ (out kept : List ℕ) {q : Pen} (m : Put name (Counting (length out)) out kept q) where
+    untouched : kept ≡ out
+    untouched = m .output ∙ filled-counting out name (length out)
 
-    left-of : (left : ℕ) → q ≡ Left left → (length name ≤ room) × (left ≡ room - length name)
-    left-of left f =
-        elim (decLe (length name) room) [
-          | yes g ↦ let e : Left left ≡ Left (room - length name) = sym f ∙ m .pen ∙ behind-room room name g in (g, (cc))
-          | no g ↦ absurd (not-left left (sym (behind-short room name (omega arith)) ∙ sym (m .pen) ∙ f))
+    pub name-full : OneOf (0 ∷ 2 ∷ []) (tagOf pen-type q) → Answered s row out kept (told.Refused refusals.full)
+    name-full f = subst (λ o. Answered s row out o (told.Refused refusals.full)) (sym untouched) (answered-full out short)
+      where
+        short : ¬ (length name ≤ length out)
+        short g =
+            let e : tagOf pen-type q ≡ 1 = ap (tagOf pen-type) (m .pen ∙ counted-room (length out) name (length out) g) in
+            not-counting (subst (OneOf (0 ∷ 2 ∷ [])) e f)
+
+    -- .. or the room that is left ..
+    counted-left : (left : ℕ) → q ≡ Counting left → (length name ≤ length out) × (left ≡ length out - length name)
+    counted-left left f =
+        elim (decLe (length name) (length out)) [
+          | yes g ↦
+              let e : Counting left ≡ Counting (length out - length name) = sym f ∙ m .pen ∙ counted-room (length out) name (length out) g in (g, (cc))
+          | no g ↦ absurd (omega (arith, ap (tagOf pen-type) (sym (counted-short (length out) name (length out) (omega arith)) ∙ sym (m .pen) ∙ f)))
         ]
 
-    pub left-within : (left : ℕ) → q ≡ Left left → left ≤ room
-    left-within left f = let l = left-of left f in omega (arith, l .1)
+    pub left-within : (left : ℕ) → q ≡ Counting left → left ≤ length out
+    left-within left f = let l = counted-left left f in omega (arith, l .1)
 
-  -- A name that was measured on the buffer's room: it has none ..
-  pub name-full : (out kept : List ℕ) → kept ≡ out → {part part' : List ℕ} {q : Pen} → Put name (Left (length out)) part part' q → q ≡ Full →
-      Answered s row out kept (told.Refused refusals.full)
-  name-full out kept k m f =
-      subst (λ o. Answered s row out o (told.Refused refusals.full)) (sym k) (answered-full out (full-of (length out) m f))
+    -- .. and is put then.
+    pub name-put : (left : ℕ) → q ≡ Counting left → {out' : List ℕ} {r : Pen} → Put name (At 0) kept out' r →
+        Answered s row out out' (told.Bytes (length out - left))
+    name-put left f {out'} x =
+        let l = counted-left left f in
+        let e = ap (λ o. put o 0 (take (length o - 0) name)) untouched ∙ ap (put out 0) (take-all (length out - 0) name (omega (arith, l .0))) in
+        answered-put out out' (length out - left) (omega (arith, l .0, l .1)) (omega arith) (x .output ∙ filled-at kept name 0 ∙ e)
 
-  -- .. or was put.
-  pub name-put : (out kept : List ℕ) → kept ≡ out → {part part' : List ℕ} {q : Pen} → Put name (Left (length out)) part part' q → (left : ℕ) →
-      {out' : List ℕ} {r : Pen} → q ≡ Left left → Put name (Left (length out)) kept out' r → Answered s row out out' (told.Bytes (length out - left))
-  name-put out kept k m left {out'} f x =
-      let l = left-of (length out) m left f in
-      let c : length out ≤ length kept = subst (λ o. length out ≤ length o) (sym k) (omega arith) in
-      let z : length kept - length out ≡ 0 = ap (λ o. length o - length out) k ∙ sub-self (length out) in
-      answered-put out out' (length out - left) (omega (arith, l .0, l .1)) (omega arith)
-      (x .output (length out) refl (l .0) c ∙ ap₂ (λ (o : List ℕ) (i : ℕ). put o i name) k z)
+  -- A name that was put into an array, up to a place ..
+  module _ (array : List ℕ) {array' : List ℕ} {q : Pen} (m : Put name (At 0) array array' q) (size : ℕ) (f : q ≡ At size) where
+    placed : (length name ≤ length array) × (size ≡ length name)
+    placed =
+        elim (decLe (length name) (length array - 0)) [
+          | yes g ↦
+              let e : At size ≡ At (length name) = sym f ∙ m .pen ∙ behind-room (length array) name 0 g ∙ ap At (zero-add (length name)) in
+              (omega arith, (cc))
+          | no g ↦ absurd (omega (arith, ap (tagOf pen-type) (sym (behind-short (length array) name 0 (omega arith)) ∙ sym (m .pen) ∙ f)))
+        ]
 
-  -- A name that was put into an array: the buffer has no room for it ..
-  module _ (short : List ℕ) {short' : List ℕ} {q : Pen} (m : Put name (Left (length short)) short short' q) (left : ℕ) (f : q ≡ Left left) where
-    pub short-full : (out : List ℕ) → length out < length short - left → Answered s row out out (told.Refused refusals.full)
-    short-full out g =
-        let l = left-of (length short) m left f in
-        answered-full out (let k = l .1 in let i = l .0 in omega arith)
+    pub size-within : size ≤ length array
+    size-within = omega (arith, placed .0, placed .1)
 
-    -- .. or it was copied.
-    pub short-put : (out out' : List ℕ) → length short - left ≤ length out → out' ≡ put out 0 (take (length short - left) short') →
-        Answered s row out out' (told.Bytes (length short - left))
+    -- .. for which the buffer has no room ..
+    pub short-full : (out : List ℕ) → length out < size → Answered s row out out (told.Refused refusals.full)
+    short-full out g = answered-full out (let k = placed .1 in omega arith)
+
+    -- .. or which was copied.
+    pub short-put : (out out' : List ℕ) → size ≤ length out → out' ≡ put out 0 (take size array') → Answered s row out out' (told.Bytes size)
     short-put out out' g o =
-        let l = left-of (length short) m left f in
-        let n : length short - left ≡ length name = omega (arith, l .0, l .1) in
-        let z : length short - length short ≡ 0 = sub-self (length short) in
-        let p : short' ≡ put short 0 name = m .output (length short) refl (l .0) (omega arith) ∙ ap (λ i. put short i name) z in
-        let t : take (length short - left) short' ≡ name = ap₂ take n p ∙ put-same short 0 name (let g = l .0 in omega arith) in
-        answered-put out out' (length short - left) n g (o ∙ ap (put out 0) t)
+        let l = placed in
+        let p : array' ≡ put array 0 name =
+        m .output ∙ filled-at array name 0 ∙ ap (put array 0) (take-all (length array - 0) name (omega (arith, l .0))) in
+        let t : take size array' ≡ name = ap₂ take (l .1) p ∙ put-same array 0 name (let k = l .0 in omega arith) in
+        answered-put out out' size (l .1) g (o ∙ ap (put out 0) t)
 
 module _ (s : List ℕ) (row : ℕ) (out : List ℕ) {x : SheetJudged} (e : judgedRead x ≡ summary (judgedBytes s)) where
   -- A sheet that is not well-formed ..

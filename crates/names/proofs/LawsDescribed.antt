@@ -1,7 +1,7 @@
 -- What stands before the names, these, and what stands behind them are the text of a row, whatever its kind. Assumes nothing.
-use mathlib.Core.Path.{_≡_, refl, sym, ap, _∙_, subst}
+use mathlib.Core.Path.{_≡_, refl, sym, ap, ap₂, _∙_, subst}
 use Prim.Native.String.{String}
-use Prim.Native.Nat.{ℕ, _+_, _≤_}
+use Prim.Native.Nat.{ℕ, _+_, _%_, _^_, _≤_, _<_}
 use native.Mathlib.Omega.{arith}
 use mathlib.Core.Bool.{true, false, false≢true}
 use mathlib.Core.List.{List, [], _∷_, _++_, map, append-nil, append-assoc}
@@ -14,19 +14,19 @@ use Rattle.format.specs.Tables.{TypeRow, plain, pointer, tile, tensorView, part
 use Rattle.format.specs.Types.{plainTags, among}
 use Rattle.format.specs.Kinds.{kindOf}
 use Rattle.format.specs.Sheet.{countedWords, fieldWords}
-use Rattle.format.specs.Sound.{SoundType}
-use Rattle.format.specs.Names.{ascii, joined, dimension, i32, tileDims, named, listed, typeText, namesOf, scalarNames, nameOfTag}
+use Rattle.format.specs.Sound.{All, Fits, SoundType}
+use Rattle.format.specs.Names.{ascii, decimal, joined, dimension, i32, ifBit0, tileDims, named, listed, typeText, namesOf, scalarNames, nameOfTag}
 use Rattle.format.proofs.LawsKinds.{plain-kind}
 use Rattle.sheet.specs.Store.{wordsIn}
 use Rattle.sheet.specs.Lies.{Lies}
 use Rattle.sheet.proofs.LawsLies.{lies-front, lies-back, lies-first, lies-inside, lies-taken}
-use Rattle.text.specs.Text.{Put}
-use Rattle.text.specs.declared.Pen.{Pen}
-use Rattle.text.proofs.LawsText.{put-then, put-as}
+use Rattle.text.specs.Counted.{word, counted, afterList}
+use Rattle.text.specs.Numbers.{low32}
+use Rattle.text.proofs.LawsCounted.{word-lies, counted-lies, after-lies}
+use Rattle.text.proofs.LawsNumbers.{low32-fits}
 use Rattle.kinds.specs.declared.Indices.{Indices}
-use Rattle.kinds.specs.Indices.{Found, CountedAt, Named}
-use Rattle.kinds.specs.Openings.{Opening}
-use Rattle.kinds.specs.Endings.{Ending}
+use Rattle.kinds.specs.Indices.{from, countedFrom, indices}
+use Rattle.kinds.specs.Parts.{closed, opening, ending}
 use Rattle.names.specs.Names.{typesIn, listAt}
 
 -- The names of the rows before this one.
@@ -54,6 +54,11 @@ restOf (gatherScatterView flags shape view sparse padding) = sparse ∷ padding 
 restOf (stridedView flags shape strides view dims padding) = countedWords dims ++ (padding ∷ [])
 restOf (function inputs results) = countedWords results
 
+-- These indices stand where they are said to, and these words behind them.
+pub record Found (s is rest : List ℕ) (x : Indices) : Type 0 where
+  pub lies : Lies (wordsIn s) (x .word) (is ++ rest)
+  pub counted : x .count ≡ length is
+
 -- Indices that were found are inside the sheet, they are those that are listed, and what stands behind them stands behind
 -- their words.
 module _ (s : List ℕ) {x : Indices} (is rest : List ℕ) (f : Found s is rest x) where
@@ -75,157 +80,176 @@ pub record Function (y : TypeRow) : Type 0 where
   pub results : List ℕ
   pub same : y ≡ function inputs results
 
-module _ (s : List ℕ) (at tag : ℕ) (e : tag ≡ getD (wordsIn s) at 0) where
-  -- Another kind's tag.
-  other : (k : ℕ) (ws : List ℕ) → Lies (wordsIn s) at (k ∷ ws) → tag ≡ tagFunc → eqb k tagFunc ≡ false → ⊥
-  other k ws h m f = eqb-false k tagFunc f (sym (lies-first k ws h) ∙ sym e ∙ m)
+-- Three parts of a text by other names.
+three : {a a' b b' c c' : List ℕ} → a ≡ a' → b ≡ b' → c ≡ c' → a ++ (b ++ c) ≡ a' ++ (b' ++ c')
+three e f g = ap₂ (λ (x : List ℕ) (y : List ℕ). x ++ y) e (ap₂ (λ (x : List ℕ) (y : List ℕ). x ++ y) f g)
 
-  pub tagged-function : (c : VersionClass) (y : TypeRow) → SoundType c y → Lies (wordsIn s) at (fieldWords y) → tag ≡ tagFunc → Function y
-  unfolding fieldWords
-  tagged-function c (plain k) g h m =
-      absurd (false≢true (ap (λ b. among b plainTags) (sym m ∙ e ∙ lies-first k [] h) ∙ g))
-  tagged-function c (pointer flags element attribute) g h m = absurd (other tagPointer _ h m refl)
-  tagged-function c (tile element dims) g h m = absurd (other tagTile _ h m refl)
-  tagged-function c (tensorView flags element shape strides attribute) g h m = absurd (other tagTensorView _ h m refl)
-  tagged-function c (partitionView flags shape view dims padding) g h m = absurd (other tagPartitionView _ h m refl)
-  tagged-function c (gatherScatterView flags shape view sparse padding) g h m = absurd (other tagGatherScatterView _ h m refl)
-  tagged-function c (stridedView flags shape strides view dims padding) g h m = absurd (other tagStridedView _ h m refl)
-  tagged-function c (function inputs results) g h m = record { inputs = inputs; results = results; same = refl }
+-- The parts before a name, and what follows.
+apart : (a b c d : List ℕ) → (a ++ (b ++ c)) ++ d ≡ a ++ (b ++ (c ++ d))
+apart a b c d = append-assoc a (b ++ c) d ∙ ap (λ t. a ++ t) (append-assoc b c d)
 
-  module _ (x : Indices) (n : Named (kindOf tag) s at x) where
-    naming : (k : ℕ) → tag ≡ k → Named (kindOf k) s at x
-    naming k i = subst (λ j. Named (kindOf j) s at x) i n
+view-apart : (a b c d : List ℕ) → ((a ++ b) ++ c) ++ d ≡ a ++ (b ++ (c ++ d))
+view-apart a b c d = append-assoc (a ++ b) c d ∙ append-assoc a b (c ++ d)
+
+strided-apart : (a b c d f g : List ℕ) → ((a ++ b) ++ (c ++ (d ++ f))) ++ g ≡ a ++ (b ++ (c ++ (d ++ (f ++ g))))
+strided-apart a b c d f g =
+    append-assoc (a ++ b) (c ++ (d ++ f)) g ∙ append-assoc a b ((c ++ (d ++ f)) ++ g) ∙ ap (λ t. a ++ (b ++ t)) (apart c d f g)
+
+module _ (s : List ℕ) (fit : length (wordsIn s) < 2 ^ 64) where
+  abbrev ws : List ℕ
+  ws = wordsIn s
+
+  -- Indices from a place on where they lie.
+  found-from : (i : ℕ) (is rest : List ℕ) {x : Indices} → x ≡ from i (length is) → Lies ws i (is ++ rest) → Found s is rest x
+  found-from i is rest {x} e h =
+      let j = lies-inside (is ++ rest) h in
+      let k : i ≡ i % 2 ^ 64 = omega arith in
+      record { lies = subst (λ n. Lies ws n (is ++ rest)) (k ∙ sym (ap (λ z. z .word) e)) h; counted = ap (λ z. z .count) e }
+
+  found-counted : (i : ℕ) (is rest : List ℕ) {x : Indices} → x ≡ countedFrom ws i → Lies ws i (countedWords is ++ rest) → Found s is rest x
+  unfolding countedFrom
+  found-counted i is rest e h =
+      found-from (i + 1) is rest (e ∙ ap (from (i + 1)) (word-lies ws fit (length is) (is ++ rest) h)) (lies-back (length is ∷ []) (is ++ rest) h)
+
+  -- The results of a function type are found behind its inputs.
+  pub results-found : (behind : ℕ) (y : TypeRow) (f : Function y) {z : Indices} → Lies ws behind (restOf y) → z ≡ countedFrom ws behind →
+      Found s (f .results) [] z
+  results-found behind y f h e =
+      let k = subst (λ w. Lies ws behind (restOf w)) (f .same) h in
+      found-counted behind (f .results) [] e (subst (Lies ws behind) (sym (append-nil (countedWords (f .results)))) k)
+
+  module _ (at tag : ℕ) (e : tag ≡ getD ws at 0) where
+    -- Another kind's tag.
+    other : (k : ℕ) (vs : List ℕ) → Lies ws at (k ∷ vs) → tag ≡ tagFunc → eqb k tagFunc ≡ false → ⊥
+    other k vs h m f = eqb-false k tagFunc f (sym (lies-first k vs h) ∙ sym e ∙ m)
+
+    pub tagged-function : (c : VersionClass) (y : TypeRow) → SoundType c y → Lies ws at (fieldWords y) → tag ≡ tagFunc → Function y
+    unfolding fieldWords
+    tagged-function c (plain k) g h m =
+        absurd (false≢true (ap (λ b. among b plainTags) (sym m ∙ e ∙ lies-first k [] h) ∙ g))
+    tagged-function c (pointer flags element attribute) g h m = absurd (other tagPointer _ h m refl)
+    tagged-function c (tile element dims) g h m = absurd (other tagTile _ h m refl)
+    tagged-function c (tensorView flags element shape strides attribute) g h m = absurd (other tagTensorView _ h m refl)
+    tagged-function c (partitionView flags shape view dims padding) g h m = absurd (other tagPartitionView _ h m refl)
+    tagged-function c (gatherScatterView flags shape view sparse padding) g h m = absurd (other tagGatherScatterView _ h m refl)
+    tagged-function c (stridedView flags shape strides view dims padding) g h m = absurd (other tagStridedView _ h m refl)
+    tagged-function c (function inputs results) g h m = record { inputs = inputs; results = results; same = refl }
 
     -- The indices of a row are found, whatever its kind.
-    pub row-found : (c : VersionClass) (y : TypeRow) → SoundType c y → Lies (wordsIn s) at (fieldWords y) → Found s (indicesOf y) (restOf y) x
-    unfolding fieldWords Named kindOf
-    row-found c (plain k) g h =
-        subst (λ a. Named a s at x) (ap kindOf (e ∙ lies-first k [] h) ∙ plain-kind k g) n (k ∷ []) h
-    row-found c (pointer flags element attribute) g h =
-        naming tagPointer (e ∙ lies-first _ _ h) element (attribute ∷ []) (lies-back (tagPointer ∷ flags ∷ []) _ h)
-    row-found c (tile element dims) g h =
-        naming tagTile (e ∙ lies-first _ _ h) element (countedWords dims) (lies-back (tagTile ∷ []) _ h)
-    row-found c (tensorView flags element shape strides attribute) g h =
-        naming tagTensorView (e ∙ lies-first _ _ h) element _ (lies-back (tagTensorView ∷ flags ∷ []) _ h)
-    row-found c (partitionView flags shape view dims padding) g h =
-        naming tagPartitionView (e ∙ lies-first _ _ h) .each shape view _ (lies-back (tagPartitionView ∷ flags ∷ []) _ h)
-    row-found c (gatherScatterView flags shape view sparse padding) g h =
-        naming tagGatherScatterView (e ∙ lies-first _ _ h) .each shape view _ (lies-back (tagGatherScatterView ∷ flags ∷ []) _ h)
-    row-found c (stridedView flags shape strides view dims padding) g h =
-        naming tagStridedView (e ∙ lies-first _ _ h) shape strides view _ (lies-back (tagStridedView ∷ flags ∷ []) _ h)
-    row-found c (function inputs results) g h =
-        naming tagFunc (e ∙ lies-first _ _ h) .each inputs (countedWords results) (lies-back (tagFunc ∷ []) _ h)
+    pub row-found : (x : Indices) → x ≡ indices (kindOf tag) ws at → (c : VersionClass) (y : TypeRow) → SoundType c y →
+        Lies ws at (fieldWords y) → Found s (indicesOf y) (restOf y) x
+    unfolding fieldWords indices kindOf
+    row-found x n c (plain k) g h =
+        found-from at [] (k ∷ []) (n ∙ ap (λ a. indices a ws at) (ap kindOf (e ∙ lies-first k [] h) ∙ plain-kind k g)) h
+    row-found x n c (pointer flags element attribute) g h =
+        found-from (at + 2) (element ∷ []) (attribute ∷ []) (n ∙ ap (λ k. indices (kindOf k) ws at) (e ∙ lies-first _ _ h))
+        (lies-back (tagPointer ∷ flags ∷ []) _ h)
+    row-found x n c (tile element dims) g h =
+        found-from (at + 1) (element ∷ []) (countedWords dims) (n ∙ ap (λ k. indices (kindOf k) ws at) (e ∙ lies-first _ _ h))
+        (lies-back (tagTile ∷ []) _ h)
+    row-found x n c (tensorView flags element shape strides attribute) g h =
+        found-from (at + 2) (element ∷ []) _ (n ∙ ap (λ k. indices (kindOf k) ws at) (e ∙ lies-first _ _ h))
+        (lies-back (tagTensorView ∷ flags ∷ []) _ h)
+    row-found x n c (partitionView flags shape view dims padding) g h =
+        found-from (afterList ws (at + 2)) (view ∷ []) _ (n ∙ ap (λ k. indices (kindOf k) ws at) (e ∙ lies-first _ _ h))
+        (after-lies ws fit shape _ (lies-back (tagPartitionView ∷ flags ∷ []) _ h))
+    row-found x n c (gatherScatterView flags shape view sparse padding) g h =
+        found-from (afterList ws (at + 2)) (view ∷ []) _ (n ∙ ap (λ k. indices (kindOf k) ws at) (e ∙ lies-first _ _ h))
+        (after-lies ws fit shape _ (lies-back (tagGatherScatterView ∷ flags ∷ []) _ h))
+    row-found x n c (stridedView flags shape strides view dims padding) g h =
+        found-from (afterList ws (afterList ws (at + 2))) (view ∷ []) _ (n ∙ ap (λ k. indices (kindOf k) ws at) (e ∙ lies-first _ _ h))
+        (after-lies ws fit strides _ (after-lies ws fit shape _ (lies-back (tagStridedView ∷ flags ∷ []) _ h)))
+    row-found x n c (function inputs results) g h =
+        found-counted (at + 1) inputs (countedWords results) (n ∙ ap (λ k. indices (kindOf k) ws at) (e ∙ lies-first _ _ h))
+        (lies-back (tagFunc ∷ []) _ h)
 
--- The results of a function type are found behind its inputs.
-pub results-found : (s : List ℕ) (behind : ℕ) (y : TypeRow) (f : Function y) {z : Indices} → Lies (wordsIn s) behind (restOf y) → CountedAt s behind z →
-    Found s (f .results) [] z
-results-found s behind y f h a =
-    let k = subst (λ w. Lies (wordsIn s) behind (restOf w)) (f .same) h in
-    a .each (f .results) [] (subst (Lies (wordsIn s) behind) (sym (append-nil (countedWords (f .results)))) k)
+    -- The text of a row over its words is that of the row: what stands before its names, these, and what stands behind them.
+    module _ (names : List (List ℕ)) (behind : ℕ) where
+      opened : (k : ℕ) → tag ≡ k → opening (kindOf tag) tag ws at ≡ opening (kindOf k) k ws at
+      opened k i = ap (λ j. opening (kindOf j) j ws at) i
 
--- A text in three parts, and what follows.
-apart : (a : String) (b : List ℕ) (c : String) (d : List ℕ) → (ascii a ++ (b ++ ascii c)) ++ d ≡ ascii a ++ (b ++ (ascii c ++ d))
-apart a b c d = append-assoc (ascii a) (b ++ ascii c) d ∙ ap (λ t. ascii a ++ t) (append-assoc b (ascii c) d)
+      ended : (k : ℕ) → tag ≡ k → ending (kindOf tag) ws at behind ≡ ending (kindOf k) ws at behind
+      ended k i = ap (λ j. ending (kindOf j) ws at behind) i
 
--- The text before the name of a strided view, and what follows.
-strided-text : (a b c : List ℕ) → (ascii "strided_view<tile=(" ++ (a ++ (ascii "), traversal_strides=[" ++ (b ++ ascii "], tv=")))) ++ c ≡
-    ascii "strided_view<tile=(" ++ (a ++ (ascii "), traversal_strides=[" ++ (b ++ (ascii "], tv=" ++ c))))
-strided-text a b c =
-    let tv = ascii "], tv=" in
-    let strides = ascii "), traversal_strides=[" in
-    append-assoc (ascii "strided_view<tile=(") (a ++ (strides ++ (b ++ tv))) c ∙
-    ap (λ t. ascii "strided_view<tile=(" ++ t)
-    (append-assoc a (strides ++ (b ++ tv)) c ∙
-    ap (λ t. a ++ t) (append-assoc strides (b ++ tv) c ∙ ap (λ t. strides ++ t) (append-assoc b tv c)))
+      -- One name.
+      one : (i : ℕ) → listed names (i ∷ []) ≡ named names i
+      one i = append-nil (named names i)
 
--- The pieces of a row's text were put: what stands before its names, these, and what stands behind them.
-module _ (s : List ℕ) (row at tag : ℕ) (x : Indices) (p q r t : Pen) (out out1 out2 out3 : List ℕ) (e : tag ≡ getD (wordsIn s) at 0)
-    (o : Opening (kindOf tag) tag s at p out out1 q) (n : Named (kindOf tag) s at x)
-    (l : Put (listAt s row (x .word) (x .count)) q out1 out2 r) (behind : ℕ) (b : behind ≡ x .word + x .count)
-    (w : Ending (kindOf tag) s at behind r out2 out3 t) (c : VersionClass) where
-  opened : (k : ℕ) → tag ≡ k → Opening (kindOf k) k s at p out out1 q
-  opened k i = subst (λ j. Opening (kindOf j) j s at p out out1 q) i o
+      -- What is optional, and the end.
+      closed-lies : (name : String) (flags value place : ℕ) (vs us : List ℕ) → Lies ws (at + 1) (flags ∷ vs) → Lies ws place (value ∷ us) →
+          closed ws at name (word ws place) ≡ ifBit0 flags (ascii name ++ decimal value) ++ ascii ">"
+      closed-lies name flags value place vs us h k =
+          ap₂ (λ a b. ifBit0 a (ascii name ++ decimal b) ++ ascii ">") (word-lies ws fit flags vs h) (word-lies ws fit value us k)
 
-  ended : (k : ℕ) → tag ≡ k → Ending (kindOf k) s at behind r out2 out3 t
-  ended k i = subst (λ j. Ending (kindOf j) s at behind r out2 out3 t) i w
+      -- A list of numbers of 32 bits, and one of those that may be dynamic.
+      low-lies : (sep : String) (place : ℕ) (vs : List ℕ) → All (Fits 32) vs → Lies ws place (countedWords vs) →
+          joined sep (map low32 (counted ws place)) ≡ joined sep (map i32 vs)
+      low-lies sep place vs f h = ap (λ us. joined sep (map low32 us)) (counted-lies ws fit vs h) ∙ ap (joined sep) (low32-fits vs f)
 
-  -- The names, where they are several and where there is one.
-  several : (is rest : List ℕ) → Found s is rest x → Put (listed (earlier s row) is) q out1 out2 r
-  several is rest f = put-as (found-listed s is rest f row) l
+      dimensions-lie : (sep : String) (place : ℕ) (vs : List ℕ) → Lies ws place (countedWords vs) →
+          joined sep (map dimension (counted ws place)) ≡ joined sep (map dimension vs)
+      dimensions-lie sep place vs h = ap (λ us. joined sep (map dimension us)) (counted-lies ws fit vs h)
 
-  one : (i : ℕ) (rest : List ℕ) → Found s (i ∷ []) rest x → Put (named (earlier s row) i) q out1 out2 r
-  one i rest f = put-as (append-nil (named (earlier s row) i)) (several (i ∷ []) rest f)
+      pub row-text : (c : VersionClass) (y : TypeRow) → SoundType c y → Lies ws at (fieldWords y) → Lies ws behind (restOf y) → ¬ (tag ≡ tagFunc) →
+          opening (kindOf tag) tag ws at ++ (listed names (indicesOf y) ++ ending (kindOf tag) ws at behind) ≡ typeText names y
+      unfolding fieldWords typeText opening ending kindOf
+      row-text c (plain k) g h r z =
+          let i : tag ≡ k = e ∙ lies-first k [] h in
+          let j = ap kindOf i ∙ plain-kind k g in
+          three {b = []} (ap (λ a. opening a tag ws at) j ∙ ap (nameOfTag scalarNames) i) refl (ap (λ a. ending a ws at behind) j) ∙ append-nil _
+      row-text c (pointer flags element attribute) g h r z =
+          let i = e ∙ lies-first _ _ h in
+          three (opened tagPointer i) (one element)
+          (ended tagPointer i ∙ closed-lies ", ptr_attr=" flags attribute behind _ _ (lies-back (tagPointer ∷ []) _ h) r)
+      row-text c (tile element dims) g h r z =
+          let i = e ∙ lies-first _ _ h in
+          three (opened tagTile i ∙ ap (λ ds. ascii "tile<" ++ tileDims ds) (counted-lies ws fit dims (lies-back (tagTile ∷ element ∷ []) _ h))) (one element)
+          (ended tagTile i) ∙
+          append-assoc (ascii "tile<") (tileDims dims) _
+      row-text c (tensorView flags element shape strides attribute) g h r z =
+          let i = e ∙ lies-first _ _ h in
+          let v = lies-front (countedWords shape) _ (lies-back (tagTensorView ∷ flags ∷ element ∷ []) _ h) in
+          let a = after-lies ws fit shape _ r in
+          let b = after-lies ws fit strides _ a in
+          three (opened tagTensorView i ∙ ap (λ t. ascii "tensor_view<" ++ (t ++ ascii "x")) (dimensions-lie "x" (at + 3) shape v)) (one element)
+          (ended tagTensorView i ∙
+          ap₂ (λ t u. ascii ", strides=[" ++ (t ++ (ascii "]" ++ u))) (dimensions-lie "," (afterList ws behind) strides (lies-front (countedWords strides) _ a))
+          (closed-lies ", ptr_attr=" flags attribute (afterList ws (afterList ws behind)) _ _ (lies-back (tagTensorView ∷ []) _ h) b)) ∙
+          apart (ascii "tensor_view<") (joined "x" (map dimension shape)) (ascii "x") _
+      row-text c (partitionView flags shape view dims padding) g h r z =
+          let i = e ∙ lies-first _ _ h in
+          let v = lies-front (countedWords shape) _ (lies-back (tagPartitionView ∷ flags ∷ []) _ h) in
+          three (opened tagPartitionView i ∙ ap (λ t. (ascii "partition_view<tile=(" ++ t) ++ ascii "), tv=") (low-lies "x" (at + 2) shape (g .1) v)) (one view)
+          (ended tagPartitionView i ∙
+          closed-lies ", padding=" flags padding (afterList ws behind) _ _ (lies-back (tagPartitionView ∷ []) _ h) (after-lies ws fit dims _ r)) ∙
+          view-apart (ascii "partition_view<tile=(") (joined "x" (map i32 shape)) (ascii "), tv=") _
+      row-text c (gatherScatterView flags shape view sparse padding) g h r z =
+          let i = e ∙ lies-first _ _ h in
+          let v = lies-front (countedWords shape) _ (lies-back (tagGatherScatterView ∷ flags ∷ []) _ h) in
+          three (opened tagGatherScatterView i ∙ ap (λ t. (ascii "gather_scatter_view<tile=(" ++ t) ++ ascii "), tv=") (low-lies "x" (at + 2) shape (g .0) v))
+          (one view)
+          (ended tagGatherScatterView i ∙
+          ap₂ (λ n u. ascii ", sparse_dim=" ++ (decimal n ++ u)) (word-lies ws fit sparse _ r)
+          (closed-lies ", padding=" flags padding (behind + 1) _ _ (lies-back (tagGatherScatterView ∷ []) _ h) (lies-back (sparse ∷ []) _ r))) ∙
+          view-apart (ascii "gather_scatter_view<tile=(") (joined "x" (map i32 shape)) (ascii "), tv=") _
+      row-text c (stridedView flags shape strides view dims padding) g h r z =
+          let i = e ∙ lies-first _ _ h in
+          let v = lies-back (tagStridedView ∷ flags ∷ []) _ h in
+          let a = after-lies ws fit shape _ v in
+          three (opened tagStridedView i ∙
+          ap₂ (λ t u. (ascii "strided_view<tile=(" ++ t) ++ (ascii "), traversal_strides=[" ++ (u ++ ascii "], tv=")))
+          (low-lies "x" (at + 2) shape (g .0) (lies-front (countedWords shape) _ v))
+          (low-lies "," (afterList ws (at + 2)) strides (g .1) (lies-front (countedWords strides) _ a))) (one view)
+          (ended tagStridedView i ∙
+          ap₂ (λ t u. ascii ", dim_map=[" ++ (t ++ (ascii "]" ++ u))) (low-lies "," behind dims (g .2) (lies-front (countedWords dims) _ r))
+          (closed-lies ", padding=" flags padding (afterList ws behind) _ _ (lies-back (tagStridedView ∷ []) _ h) (after-lies ws fit dims _ r))) ∙
+          strided-apart (ascii "strided_view<tile=(") (joined "x" (map i32 shape)) (ascii "), traversal_strides=[") (joined "," (map i32 strides)) (ascii "], tv=") _
+      row-text c (function inputs results) g h r z = absurd (z (e ∙ lies-first _ _ h))
 
-  -- What stands behind the names of a row.
-  behind-names : (y : TypeRow) → SoundType c y → Lies (wordsIn s) at (fieldWords y) → Lies (wordsIn s) behind (restOf y)
-  behind-names y g h = found-behind s (indicesOf y) (restOf y) (row-found s at tag e x n c y g h) behind b
-
-  -- They are the text of a row that is no function type ..
-  pub type-described : (y : TypeRow) → SoundType c y → Lies (wordsIn s) at (fieldWords y) → ¬ (tag ≡ tagFunc) →
-      Put (typeText (earlier s row) y) p out out3 t
-  unfolding fieldWords typeText Opening Ending kindOf
-  type-described (plain k) g h z =
-      let i : tag ≡ k = e ∙ lies-first k [] h in
-      let j = ap kindOf i ∙ plain-kind k g in
-      let o' = subst (λ a. Opening a tag s at p out out1 q) j o .each (rw i g) in
-      let w' = subst (λ a. Ending a s at behind r out2 out3 t) j w in
-      put-as (append-nil _ ∙ ap (nameOfTag scalarNames) i)
-      (put-then o' (put-then (several [] (k ∷ []) (row-found s at tag e x n c (plain k) g h)) w'))
-  type-described (pointer flags element attribute) g h z =
-      let i = e ∙ lies-first _ _ h in
-      let y = pointer flags element attribute in
-      let u = lies-front (flags ∷ []) _ (lies-back (tagPointer ∷ []) _ h) in
-      put-then (opened tagPointer i)
-      (put-then (one element _ (row-found s at tag e x n c y g h)) (ended tagPointer i .each flags attribute u (behind-names y g h)))
-  type-described (tile element dims) g h z =
-      let i = e ∙ lies-first _ _ h in
-      put-as (append-assoc (ascii "tile<") (tileDims dims) _)
-      (put-then (opened tagTile i .each dims (lies-back (tagTile ∷ element ∷ []) _ h))
-      (put-then (one element _ (row-found s at tag e x n c (tile element dims) g h)) (ended tagTile i)))
-  type-described (tensorView flags element shape strides attribute) g h z =
-      let i = e ∙ lies-first _ _ h in
-      let y = tensorView flags element shape strides attribute in
-      let u = lies-front (flags ∷ []) _ (lies-back (tagTensorView ∷ []) _ h) in
-      let v = lies-front (countedWords shape) _ (lies-back (tagTensorView ∷ flags ∷ element ∷ []) _ h) in
-      put-as (apart "tensor_view<" (joined "x" (map dimension shape)) "x" _)
-      (put-then (opened tagTensorView i .each shape v)
-      (put-then (one element _ (row-found s at tag e x n c y g h)) (ended tagTensorView i .each flags shape strides attribute u (behind-names y g h))))
-  type-described (partitionView flags shape view dims padding) g h z =
-      let i = e ∙ lies-first _ _ h in
-      let y = partitionView flags shape view dims padding in
-      let u = lies-front (flags ∷ []) _ (lies-back (tagPartitionView ∷ []) _ h) in
-      let v = lies-front (countedWords shape) _ (lies-back (tagPartitionView ∷ flags ∷ []) _ h) in
-      put-as (apart "partition_view<tile=(" (joined "x" (map i32 shape)) "), tv=" _)
-      (put-then (opened tagPartitionView i .each shape (g .1) v)
-      (put-then (one view _ (row-found s at tag e x n c y g h)) (ended tagPartitionView i .each flags dims padding u (behind-names y g h))))
-  type-described (gatherScatterView flags shape view sparse padding) g h z =
-      let i = e ∙ lies-first _ _ h in
-      let y = gatherScatterView flags shape view sparse padding in
-      let u = lies-front (flags ∷ []) _ (lies-back (tagGatherScatterView ∷ []) _ h) in
-      let v = lies-front (countedWords shape) _ (lies-back (tagGatherScatterView ∷ flags ∷ []) _ h) in
-      put-as (apart "gather_scatter_view<tile=(" (joined "x" (map i32 shape)) "), tv=" _)
-      (put-then (opened tagGatherScatterView i .each shape (g .0) v)
-      (put-then (one view _ (row-found s at tag e x n c y g h)) (ended tagGatherScatterView i .each flags sparse padding u (behind-names y g h))))
-  type-described (stridedView flags shape strides view dims padding) g h z =
-      let i = e ∙ lies-first _ _ h in
-      let y = stridedView flags shape strides view dims padding in
-      let u = lies-front (flags ∷ []) _ (lies-back (tagStridedView ∷ []) _ h) in
-      let v = subst (Lies (wordsIn s) (at + 2)) (sym (append-assoc (countedWords shape) (countedWords strides) _))
-      (lies-back (tagStridedView ∷ flags ∷ []) _ h) in
-      put-as (strided-text (joined "x" (map i32 shape)) (joined "," (map i32 strides)) _)
-      (put-then (opened tagStridedView i .each shape strides (g .0) (g .1) (lies-front (countedWords shape ++ countedWords strides) _ v))
-      (put-then (one view _ (row-found s at tag e x n c y g h)) (ended tagStridedView i .each flags dims padding (g .2) u (behind-names y g h))))
-  type-described (function inputs results) g h z = absurd (z (e ∙ lies-first _ _ h))
-
-  -- .. and, with its results behind them, of one that is.
-  pub function-described : (y : TypeRow) (f : Function y) → SoundType c y → Lies (wordsIn s) at (fieldWords y) → tag ≡ tagFunc →
-      (z : Indices) → CountedAt s behind z → {u v : Pen} {out4 out5 : List ℕ} → Put (listAt s row (z .word) (z .count)) t out3 out4 u →
-      Put (ascii ")") u out4 out5 v → Put (typeText (earlier s row) y) p out out5 v
-  unfolding typeText Opening Ending kindOf
-  function-described y f g h m z a {u} {v} {out4} {out5} j d =
-      let k = results-found s behind y f (behind-names y g h) a in
-      let i = subst (λ w. Found s (indicesOf w) (restOf w) x) (f .same) (row-found s at tag e x n c y g h) in
-      subst (λ w. Put (typeText (earlier s row) w) p out out5 v) (sym (f .same))
-      (put-then (opened tagFunc m)
-      (put-then (several (f .inputs) (countedWords (f .results)) i)
-      (put-then (ended tagFunc m) (put-then (put-as (found-listed s (f .results) [] k row) j) d))))
+      -- Of a function type, whose results stand behind its inputs.
+      pub function-text : (y : TypeRow) (f : Function y) → tag ≡ tagFunc →
+          opening (kindOf tag) tag ws at ++ (listed names (f .inputs) ++ (ending (kindOf tag) ws at behind ++ (listed names (f .results) ++ ascii ")"))) ≡
+          typeText names y
+      unfolding typeText opening ending kindOf
+      function-text y f m =
+          three {b = listed names (f .inputs)} (opened tagFunc m) refl (ap (λ t. t ++ (listed names (f .results) ++ ascii ")")) (ended tagFunc m)) ∙ ap (typeText names) (sym (f .same))

@@ -78,20 +78,18 @@ fn describe_list(sheet: &[u8], row: u64, word: usize, left: u64, out: &mut [u8],
     describe_list(sheet, row, word + 1, left - 1, out, separated)
 }
 
-// The name of a row that is there: 11 where it has no room. It is measured on a part of no bytes, and then put.
+// The name of a row that is there: 11 where it has no room. It is counted within the room, and then put.
 fn put_long_name(sheet: &[u8], row: u64, out: &mut [u8]) -> Named
     requires { ⌜ row < length (typesIn (now sheet)) ⌝ }
     ensures { λ r. ⌜ nameRead r ≡ mapRead length (nameFor (now (sheet .entry)) row (now (out .entry))) ⌝ }
     ensures { λ r. ⌜ now (out .exit) ≡ withName (now (out .entry)) (nameFor (now (sheet .entry)) row (now (out .entry))) ⌝ }
 {
     let room = out.len();
-    match describe_type(sheet, row, &mut out[0..0], Pen::Left(room)) {
-        Pen::Full => Named::Refused(Refusal::FULL),
-        Pen::Left(left) => {
-            describe_type(sheet, row, out, Pen::Left(room));
-            Named::Bytes(room - left)
-        }
-    }
+    let Pen::Counting(left) = describe_type(sheet, row, out, Pen::Counting(room)) else {
+        return Named::Refused(Refusal::FULL);
+    };
+    describe_type(sheet, row, out, Pen::At(0));
+    Named::Bytes(room - left)
 }
 
 // Nearly all names are at most so long.
@@ -104,10 +102,9 @@ fn put_name(sheet: &[u8], row: u64, out: &mut [u8]) -> Named
     ensures { λ r. ⌜ now (out .exit) ≡ withName (now (out .entry)) (nameFor (now (sheet .entry)) row (now (out .entry))) ⌝ }
 {
     let mut short = [0u8; SHORT];
-    let Pen::Left(left) = describe_type(sheet, row, &mut short, Pen::Left(SHORT)) else {
+    let Pen::At(size) = describe_type(sheet, row, &mut short, Pen::At(0)) else {
         return put_long_name(sheet, row, out);
     };
-    let size = SHORT - left;
     if out.len() < size {
         return Named::Refused(Refusal::FULL);
     }

@@ -1,13 +1,11 @@
 -- Parts that lie one behind the other. Assumes nothing.
-use mathlib.Core.Path.{_≡_, refl, sym, ap, _∙_, subst}
-use Prim.Native.Nat.{ℕ, _+_, _/_, _%_, _^_, _≤_, _<_}
+use mathlib.Core.Path.{_≡_, refl, sym, ap, _∙_}
+use Prim.Native.Nat.{ℕ, _+_, _≤_}
 use native.Mathlib.Omega.{arith}
 use mathlib.Core.List.{List, [], _∷_, _++_, append-assoc, append-nil}
 use lib.ListN.{length, take, drop, getD, length-append}
 use lib.Seq.{take-append-seam, drop-at, getD-at}
-use Rattle.sheet.specs.Store.{wordsIn}
 use Rattle.sheet.specs.Lies.{Lies}
-use Rattle.sheet.proofs.LawsWords.{length-wordsIn}
 
 -- A list is the whole of itself.
 pub whole-lies : (l : List ℕ) → Lies l 0 l
@@ -46,12 +44,3 @@ lies-inside {l} {i} part h =
 pub lies-taken : {l : List ℕ} {i : ℕ} (part : List ℕ) → Lies l i part → take (length part) (drop i l) ≡ part
 lies-taken {l} {i} part h =
     rw (h .whole, drop-at (h .front) (part ++ h .behind) i (h .place)) (take-append-seam part (h .behind))
-
--- A part stands at the place that a step counted modulo 2^64.
-pub lies-unwrapped : (s : List ℕ) {i word v : ℕ} {vs : List ℕ} → length s < 2 ^ 64 → word ≡ i % 2 ^ 64 → Lies (wordsIn s) i (v ∷ vs) →
-    Lies (wordsIn s) word (v ∷ vs)
-lies-unwrapped s {i} {word} {v} {vs} fit e h =
-    let w : length (wordsIn s) ≡ length s / 8 = length-wordsIn s in
-    let j = lies-inside (v ∷ vs) h in
-    let k : i ≡ word = omega arith in
-    subst (λ n. Lies (wordsIn s) n (v ∷ vs)) k h

@@ -2,118 +2,214 @@
 use mathlib.Core.Path.{_≡_, refl, sym, ap, ap₂, _∙_, subst}
 use Prim.Native.Nat.{ℕ, _+_, _-_, _≤_, _<_}
 use native.Mathlib.Decide.{decLe}
-use native.Mathlib.Nat.{sub-zero}
+use native.Mathlib.Nat.{add-zero, sub-zero}
 use native.Mathlib.Omega.{arith}
 use mathlib.Core.List.{List, [], _++_}
-use lib.ListN.{length, length-append}
+use lib.ListN.{length, take, length-append, length-take}
+use lib.Seq.{take-all, take-nil, take-append-le, take-append-add}
 use Rattle.exact.proofs.LawsChoice.{choose-yes, choose-no}
 use Rattle.encoding.specs.Out.{put}
-use Rattle.encoding.proofs.LawsOut.{put-nil, put-append}
-use Rattle.text.specs.Text.{behind, Put}
+use Rattle.encoding.proofs.LawsOut.{put-nil, put-full, put-append, length-put}
+use Rattle.text.specs.Text.{behind, filled, Put}
 use Rattle.text.specs.declared.Pen.{Pen}
-use Rattle.text.specs.declared.Pen.the-variants.{Left, Full}
+use Rattle.text.specs.declared.Pen.the-variants.{At, Counting, Full}
 
--- A text that has room leaves the rest of it ..
-pub behind-room : (n : ℕ) (t : List ℕ) → length t ≤ n → behind (Left n) t ≡ Left (n - length t)
-unfolding behind
-behind-room n t h = choose-yes (decLe (length t) n) _ _ h
+-- Any two results of putting one text are equal.
+pub put-only : {t : List ℕ} {p : Pen} {out a b : List ℕ} {q r : Pen} → Put t p out a q → Put t p out b r → (a ≡ b) × (q ≡ r)
+put-only x y = (x .output ∙ sym (y .output), x .pen ∙ sym (y .pen))
 
--- .. and another one leaves none.
-pub behind-short : (n : ℕ) (t : List ℕ) → n < length t → behind (Left n) t ≡ Full
-unfolding behind
-behind-short n t h = choose-no (decLe (length t) n) _ _ (omega arith)
+module _ (size : ℕ) (t : List ℕ) where
+  -- A text that has room leaves the place behind it, or the rest of the room ..
+  pub behind-room : (i : ℕ) → length t ≤ size - i → behind size (At i) t ≡ At (i + length t)
+  unfolding behind
+  behind-room i h = choose-yes (decLe (length t) (size - i)) _ _ h
 
--- Where none is left, none is left behind any text.
-pub behind-full : (t : List ℕ) → behind Full t ≡ Full
-unfolding behind
-behind-full t = refl
+  pub counted-room : (n : ℕ) → length t ≤ n → behind size (Counting n) t ≡ Counting (n - length t)
+  unfolding behind
+  counted-room n h = choose-yes (decLe (length t) n) _ _ h
 
--- Behind the second text the pen is as behind both.
-behind-then : (p : Pen) (a b : List ℕ) → behind (behind p a) b ≡ behind p (a ++ b)
-behind-then (Left n) a b =
+  -- .. and another one leaves none.
+  pub behind-short : (i : ℕ) → size - i < length t → behind size (At i) t ≡ Full
+  unfolding behind
+  behind-short i h = choose-no (decLe (length t) (size - i)) _ _ (omega arith)
+
+  pub counted-short : (n : ℕ) → n < length t → behind size (Counting n) t ≡ Full
+  unfolding behind
+  counted-short n h = choose-no (decLe (length t) n) _ _ (omega arith)
+
+  -- Where none is left, none is left behind any text.
+  pub behind-full : behind size Full t ≡ Full
+  unfolding behind
+  behind-full = refl
+
+-- What a pen puts: at a place as much as has room there, and else nothing.
+module _ (out t : List ℕ) where
+  pub filled-at : (i : ℕ) → filled (At i) out t ≡ put out i (take (length out - i) t)
+  unfolding filled
+  filled-at i = refl
+
+  pub filled-counting : (n : ℕ) → filled (Counting n) out t ≡ out
+  unfolding filled
+  filled-counting n = refl
+
+  filled-full : filled Full out t ≡ out
+  unfolding filled
+  filled-full = refl
+
+-- A buffer keeps its length.
+length-filled : (p : Pen) (out t : List ℕ) → length (filled p out t) ≡ length out
+length-filled (At i) out t = ap length (filled-at out t i) ∙ length-put out i _
+length-filled (Counting n) out t = ap length (filled-counting out t n)
+length-filled Full out t = ap length (filled-full out t)
+
+pub put-size : {t : List ℕ} {p q : Pen} {out out' : List ℕ} → Put t p out out' q → length out' ≡ length out
+put-size {t} {p} {q} {out} x = ap length (x .output) ∙ length-filled p out t
+
+-- Behind the second text the pen is as behind both ..
+behind-then : (size : ℕ) (p : Pen) (a b : List ℕ) → behind size (behind size p a) b ≡ behind size p (a ++ b)
+behind-then size (At i) a b =
+    let l = length-append a b in
+    elim (decLe (length a) (size - i)) [
+      | yes h ↦
+          ap (λ p. behind size p b) (behind-room size a i h) ∙
+          elim (decLe (length b) (size - (i + length a))) [
+            | yes k ↦
+                let m : length (a ++ b) ≤ size - i = omega arith in
+                let e : i + length a + length b ≡ i + length (a ++ b) = omega arith in
+                behind-room size b (i + length a) k ∙ ap At e ∙ sym (behind-room size (a ++ b) i m)
+            | no k ↦
+                let m : size - i < length (a ++ b) = omega arith in
+                let j : size - (i + length a) < length b = omega arith in
+                behind-short size b (i + length a) j ∙ sym (behind-short size (a ++ b) i m)
+          ]
+      | no h ↦
+          let m : size - i < length (a ++ b) = omega arith in
+          let j : size - i < length a = omega arith in
+          ap (λ p. behind size p b) (behind-short size a i j) ∙ behind-full size b ∙ sym (behind-short size (a ++ b) i m)
+    ]
+behind-then size (Counting n) a b =
     let l = length-append a b in
     elim (decLe (length a) n) [
       | yes h ↦
-          ap (λ p. behind p b) (behind-room n a h) ∙
+          ap (λ p. behind size p b) (counted-room size a n h) ∙
           elim (decLe (length b) (n - length a)) [
             | yes k ↦
-                let i : length (a ++ b) ≤ n = omega arith in
+                let m : length (a ++ b) ≤ n = omega arith in
                 let e : n - length a - length b ≡ n - length (a ++ b) = omega arith in
-                behind-room (n - length a) b k ∙ ap Left e ∙ sym (behind-room n (a ++ b) i)
+                counted-room size b (n - length a) k ∙ ap Counting e ∙ sym (counted-room size (a ++ b) n m)
             | no k ↦
-                let i : n < length (a ++ b) = omega arith in
+                let m : n < length (a ++ b) = omega arith in
                 let j : n - length a < length b = omega arith in
-                behind-short (n - length a) b j ∙ sym (behind-short n (a ++ b) i)
+                counted-short size b (n - length a) j ∙ sym (counted-short size (a ++ b) n m)
           ]
       | no h ↦
-          let i : n < length (a ++ b) = omega arith in
+          let m : n < length (a ++ b) = omega arith in
           let j : n < length a = omega arith in
-          ap (λ p. behind p b) (behind-short n a j) ∙ behind-full b ∙ sym (behind-short n (a ++ b) i)
+          ap (λ p. behind size p b) (counted-short size a n j) ∙ behind-full size b ∙ sym (counted-short size (a ++ b) n m)
     ]
-behind-then Full a b = ap (λ p. behind p b) (behind-full a) ∙ behind-full b ∙ sym (behind-full (a ++ b))
+behind-then size Full a b =
+    ap (λ p. behind size p b) (behind-full size a) ∙ behind-full size b ∙ sym (behind-full size (a ++ b))
+
+-- .. and so is the buffer.
+filled-then : (p : Pen) (out a b : List ℕ) → filled (behind (length out) p a) (filled p out a) b ≡ filled p out (a ++ b)
+filled-then (At i) out a b =
+    elim (decLe (length a) (length out - i)) [
+      | yes h ↦
+          let e : length a + (length out - (i + length a)) ≡ length out - i = omega arith in
+          let s : length (put out i a) - (i + length a) ≡ length out - (i + length a) = ap (λ l. l - (i + length a)) (length-put out i a) in
+          ap₂ (λ p o. filled p o b) (behind-room (length out) a i h) (filled-at out a i ∙ ap (put out i) (take-all (length out - i) a h)) ∙
+          filled-at (put out i a) b (i + length a) ∙ ap (λ m. put (put out i a) (i + length a) (take m b)) s ∙ within h ∙
+          ap (put out i) (sym (take-append-add a b (length out - (i + length a))) ∙ ap (λ m. take m (a ++ b)) e) ∙ sym (filled-at out (a ++ b) i)
+      | no h ↦
+          let j : length out - i < length a = omega arith in
+          ap (λ p. filled p (filled (At i) out a) b) (behind-short (length out) a i j) ∙ filled-full (filled (At i) out a) b ∙
+          filled-at out a i ∙ ap (put out i) (sym (take-append-le (length out - i) a b (omega arith))) ∙ sym (filled-at out (a ++ b) i)
+    ]
+  where
+    -- What has room behind the first text; none has where the place is past the buffer.
+    within : length a ≤ length out - i →
+        put (put out i a) (i + length a) (take (length out - (i + length a)) b) ≡ put out i (a ++ take (length out - (i + length a)) b)
+    within h =
+        let n = length-take (length out - (i + length a)) b in
+        elim (decLe i (length out)) [
+          | yes k ↦ sym (put-append a (take (length out - (i + length a)) b) out i (omega arith))
+          | no k ↦
+              let f = length-append a (take (length out - (i + length a)) b) in
+              let l = length-put out i a in
+              put-full (put out i a) (i + length a) _ (omega arith) ∙ put-full out i a (omega arith) ∙ sym (put-full out i _ (omega arith))
+        ]
+filled-then (Counting n) out a b =
+    ap (λ o. filled (behind (length out) (Counting n) a) o b) (filled-counting out a n) ∙
+    elim (decLe (length a) n) [
+      | yes h ↦ ap (λ p. filled p out b) (counted-room (length out) a n h) ∙ filled-counting out b (n - length a)
+      | no h ↦ ap (λ p. filled p out b) (counted-short (length out) a n (omega arith)) ∙ filled-full out b
+    ] ∙
+    sym (filled-counting out (a ++ b) n)
+filled-then Full out a b =
+    ap (λ p. filled p (filled Full out a) b) (behind-full (length out) a) ∙ filled-full (filled Full out a) b ∙ filled-full out a ∙
+    sym (filled-full out (a ++ b))
 
 -- What is put in two steps is both texts, one behind the other ..
 pub put-then : {a b : List ℕ} {p q r : Pen} {out mid out' : List ℕ} → Put a p out mid q → Put b q mid out' r →
     Put (a ++ b) p out out' r
 put-then {a} {b} {p} {q} {r} {out} {mid} {out'} x y =
     record {
-      pen = y .pen ∙ ap (λ z. behind z b) (x .pen) ∙ behind-then p a b;
-      size = y .size ∙ x .size;
-      output = go;
+      pen =
+          y .pen ∙ ap₂ (λ n z. behind n z b) (put-size x) (x .pen) ∙ behind-then (length out) p a b;
+      output = y .output ∙ ap₂ (λ z o. filled z o b) (x .pen) (x .output) ∙ filled-then p out a b;
     }
-  where
-    go : (n : ℕ) → p ≡ Left n → length (a ++ b) ≤ n → n ≤ length out → out' ≡ put out (length out - n) (a ++ b)
-    go n e h k =
-        let l = length-append a b in
-        let f : length a ≤ n = omega arith in
-        let g : length b ≤ n - length a = omega arith in
-        let s = x .size in
-        let m : n - length a ≤ length mid = omega arith in
-        let i : length mid - (n - length a) ≡ length out - n + length a = omega arith in
-        let j : length out - n + (length a + length b) ≤ length out = omega arith in
-        let z : q ≡ Left (n - length a) = x .pen ∙ ap (λ w. behind w a) e ∙ behind-room n a f in
-        y .output (n - length a) z g m ∙ ap₂ (λ (o : List ℕ) (w : ℕ). put o w b) (x .output n e f k) i ∙
-        sym (put-append a b out (length out - n) j)
 
 -- .. no text changes nothing ..
 pub put-nothing : {p : Pen} {out : List ℕ} → Put [] p out out p
-put-nothing {p} {out} = record { pen = same p; size = refl; output = λ n e h k. sym (put-nil out (length out - n)) }
+put-nothing {p} {out} = record { pen = same p; output = kept p }
   where
-    same : (p : Pen) → p ≡ behind p []
-    same (Left n) = ap Left (sym (sub-zero n)) ∙ sym (behind-room n [] (omega arith))
-    same Full = sym (behind-full [])
+    same : (p : Pen) → p ≡ behind (length out) p []
+    same (At i) = ap At (sym (add-zero i)) ∙ sym (behind-room (length out) [] i (omega arith))
+    same (Counting n) = ap Counting (sym (sub-zero n)) ∙ sym (counted-room (length out) [] n (omega arith))
+    same Full = sym (behind-full (length out) [])
+
+    kept : (p : Pen) → out ≡ filled p out []
+    kept (At i) = sym (filled-at out [] i ∙ ap (put out i) (take-nil (length out - i)) ∙ put-nil out i)
+    kept (Counting n) = sym (filled-counting out [] n)
+    kept Full = sym (filled-full out [])
 
 -- .. and where no room is left nothing is put any more.
 pub put-stopped : (t : List ℕ) {p : Pen} {out : List ℕ} → p ≡ Full → Put t p out out Full
 put-stopped t {p} {out} e =
     record {
-      pen = sym (ap (λ z. behind z t) e ∙ behind-full t);
-      size = refl;
-      output = λ n f h k. absurd (not-left n (sym e ∙ f));
+      pen = sym (ap (λ z. behind (length out) z t) e ∙ behind-full (length out) t);
+      output = sym (ap (λ z. filled z out t) e ∙ filled-full out t);
     }
-  where
-    not-left : (n : ℕ) → Full ≡ Left n → ⊥
-    not-left n e = let z : _≡_ {A = ℕ} 0 1 = cc in omega arith
 
 -- A text by another name.
 pub put-as : {a b : List ℕ} {p q : Pen} {out out' : List ℕ} → a ≡ b → Put a p out out' q → Put b p out out' q
 put-as {p = p} {q} {out} {out'} e x = subst (λ t. Put t p out out' q) e x
 
--- A text that has no room: nothing is put.
-pub put-short : (t : List ℕ) {p : Pen} {out : List ℕ} (n : ℕ) → p ≡ Left n → n < length t → Put t p out out Full
-put-short t {p} {out} n e h =
+-- At a place: a text that has no room, of which as much is put as has ..
+pub at-short : (t out : List ℕ) (i left : ℕ) {out' : List ℕ} → left ≡ length out - i → left < length t → out' ≡ put out i (take left t) →
+    Put t (At i) out out' Full
+at-short t out i left e h o =
     record {
-      pen = sym (ap (λ z. behind z t) e ∙ behind-short n t h);
-      size = refl;
-      output = λ m f k l. absurd (let g : m ≡ n = cc in omega arith);
+      pen = sym (behind-short (length out) t i (omega arith));
+      output = o ∙ ap (λ n. put out i (take n t)) e ∙ sym (filled-at out t i);
     }
 
--- A text that has room, where the room that is left is the buffer's, and where it is not.
-pub put-room : (t : List ℕ) {p : Pen} {out out' : List ℕ} (n : ℕ) → p ≡ Left n → length t ≤ n → length out' ≡ length out →
-    (n ≤ length out → out' ≡ put out (length out - n) t) → Put t p out out' (Left (n - length t))
-put-room t {p} {out} {out'} n e h l o =
+-- .. and one that has.
+pub at-room : (t out : List ℕ) (i left : ℕ) {out' : List ℕ} → left ≡ length out - i → length t ≤ left → out' ≡ put out i t →
+    Put t (At i) out out' (At (i + length t))
+at-room t out i left e h o =
     record {
-      pen = sym (ap (λ z. behind z t) e ∙ behind-room n t h);
-      size = l;
-      output = λ m f k j. let g : m ≡ n = cc in subst (λ i. i ≤ length out → out' ≡ put out (length out - i) t) (sym g) o j;
+      pen = sym (behind-room (length out) t i (omega arith));
+      output = o ∙ ap (put out i) (sym (take-all (length out - i) t (omega arith))) ∙ sym (filled-at out t i);
     }
+
+-- Counted: the same, and nothing is put.
+module _ (t : List ℕ) {p : Pen} {out : List ℕ} (n : ℕ) (e : p ≡ Counting n) where
+  kept : out ≡ filled p out t
+  kept = sym (ap (λ z. filled z out t) e ∙ filled-counting out t n)
+
+  pub counting-short : n < length t → Put t p out out Full
+  counting-short h = record { pen = sym (ap (λ z. behind (length out) z t) e ∙ counted-short (length out) t n h); output = kept }
+
+  pub counting-room : length t ≤ n → Put t p out out (Counting (n - length t))
+  counting-room h = record { pen = sym (ap (λ z. behind (length out) z t) e ∙ counted-room (length out) t n h); output = kept }

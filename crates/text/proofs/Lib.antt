@@ -1,3 +1,4 @@
 pub mod LawsText
 pub mod LawsDigits
+pub mod LawsCounted
 pub mod LawsNumbers

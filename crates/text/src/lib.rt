@@ -1,31 +1,46 @@
-// Text put into a lent buffer. The pen counts the room that is left, so that what fills a buffer also measures: lent a part
-// of no bytes, it puts nothing and counts the same, and it stops as soon as the room is used up.
+// Text put into a lent buffer. The pen tells where the next byte is put, or, to measure, how much room is left: what fills
+// a buffer also measures, and both stop as soon as the room is used up.
 pub mod numbers;
 
 ghost use mathlib.Core.List.{[], _∷_};
 ghost use Rattle.text.specs.Text.{Put};
+ghost use Rattle.text.specs.declared.Pen.the-variants.{At};
 
-// How much room is left behind the text that was put; `Full` where some of it had none.
+// Where the next byte is put; or how much room is left, where nothing is put; `Full` where some text had no room.
 pub enum Pen {
-    Left(usize),
+    At(usize),
+    Counting(usize),
     Full,
 }
 
-// Puts a text where it has room. The place is counted from the buffer's end, which a part of no bytes never reaches.
+// Puts as much of a text as has room at a place.
+fn put_at(out: &mut [u8], at: usize, text: &[u8]) -> Pen
+    ensures { λ r. ⌜ Put (now (text .entry)) (At at) (now (out .entry)) (now (out .exit)) r ⌝ }
+{
+    let size = out.len();
+    let left = if at < size { size - at } else { 0 };
+    if left < text.len() {
+        sheet::put_run(out, at, &text[..left]);
+        return Pen::Full;
+    }
+    sheet::put_run(out, at, text);
+    Pen::At(at + text.len())
+}
+
+// Puts a text, as the pen says.
 pub fn put_text(out: &mut [u8], pen: Pen, text: &[u8]) -> Pen
     ensures { λ r. ⌜ Put (now (text .entry)) pen (now (out .entry)) (now (out .exit)) r ⌝ }
 {
-    let Pen::Left(left) = pen else {
-        return Pen::Full;
-    };
-    let size = text.len();
-    if left < size {
-        return Pen::Full;
+    match pen {
+        Pen::At(at) => put_at(out, at, text),
+        Pen::Counting(left) => {
+            if left < text.len() {
+                return Pen::Full;
+            }
+            Pen::Counting(left - text.len())
+        }
+        Pen::Full => Pen::Full,
     }
-    if left <= out.len() {
-        sheet::put_run(out, out.len() - left, text);
-    }
-    Pen::Left(left - size)
 }
 
 // Puts a byte.

@@ -1,10 +1,12 @@
 // Numbers as text: in decimal, signed ones by their bit pattern, and those of a list with a separator between them.
 ghost use mathlib.Core.Path.{_≡_};
-ghost use Prim.Native.Nat.{_≤_};
+ghost use Prim.Native.Nat.{_*_, _≤_, _<_};
 ghost use lib.ListN.{length, drop};
-ghost use Rattle.format.specs.Names.{decimal};
+ghost use Rattle.format.specs.Names.{decimal, signed};
+ghost use Rattle.sheet.specs.Store.{wordsIn};
 ghost use Rattle.text.specs.Text.{Put};
-ghost use Rattle.text.specs.Numbers.{SignedPut, NumberPut, MorePut, ListPut};
+ghost use Rattle.text.specs.Counted.{wordsFrom, counted};
+ghost use Rattle.text.specs.Numbers.{numberText, separated, between};
 use crate::Pen;
 use crate::put_byte;
 use crate::put_text;
@@ -46,23 +48,24 @@ pub fn put_decimal(out: &mut [u8], pen: Pen, v: u64) -> Pen
     put_text(out, pen, &digits[start..])
 }
 
-// Puts a signed number by its bit pattern; those from `half` on are negative.
+// Puts a signed number by its bit pattern, of which there are twice `half`: those from `half` on are negative.
 fn put_signed(out: &mut [u8], pen: Pen, half: u64, v: u64) -> Pen
-    ensures { λ r. ⌜ SignedPut half v pen (now (out .entry)) (now (out .exit)) r ⌝ }
+    requires { ⌜ v < 2 * half ⌝ }
+    ensures { λ r. ⌜ Put (signed half v) pen (now (out .entry)) (now (out .exit)) r ⌝ }
 {
     if v < half {
         return put_decimal(out, pen, v);
     }
     let minus = put_byte(out, pen, b'-');
-    put_decimal(out, minus, std::num::wrapping_sub_u64(half, v - half))
+    put_decimal(out, minus, half - (v - half))
 }
 
-// Puts a number of a list.
+// Puts a number of a list. One of 32 bits is the low half of its word.
 fn put_number(out: &mut [u8], pen: Pen, number: Number, v: u64) -> Pen
-    ensures { λ r. ⌜ NumberPut number v pen (now (out .entry)) (now (out .exit)) r ⌝ }
+    ensures { λ r. ⌜ Put (numberText number v) pen (now (out .entry)) (now (out .exit)) r ⌝ }
 {
     match number {
-        Number::I32 => put_signed(out, pen, HALF_32, v),
+        Number::I32 => put_signed(out, pen, HALF_32, v % 0x1_0000_0000),
         Number::I64 => put_signed(out, pen, HALF_64, v),
         Number::Dynamic => {
             if v == HALF_64 {
@@ -83,7 +86,7 @@ fn put_more(
     out: &mut [u8],
     pen: Pen,
 ) -> Pen
-    ensures { λ r. ⌜ MorePut number separator count (now (sheet .entry)) «from» pen (now (out .entry)) (now (out .exit)) r ⌝ }
+    ensures { λ r. ⌜ Put (separated number separator (wordsFrom (wordsIn (now (sheet .entry))) «from» count)) pen (now (out .entry)) (now (out .exit)) r ⌝ }
 {
     let mut word = from;
     let mut left = count;
@@ -92,8 +95,8 @@ fn put_more(
         if let Pen::Full = next {
             return Pen::Full;
         }
-        let separated = put_byte(out, next, separator);
-        next = put_number(out, separated, number, sheet::word_at(sheet, word));
+        let parted = put_byte(out, next, separator);
+        next = put_number(out, parted, number, sheet::word_at(sheet, word));
         word = std::num::wrapping_add_usize(word, 1);
         left -= 1;
     }
@@ -109,7 +112,7 @@ pub fn put_list(
     out: &mut [u8],
     pen: Pen,
 ) -> Pen
-    ensures { λ r. ⌜ ListPut number separator (now (sheet .entry)) word pen (now (out .entry)) (now (out .exit)) r ⌝ }
+    ensures { λ r. ⌜ Put (between number separator (counted (wordsIn (now (sheet .entry))) word)) pen (now (out .entry)) (now (out .exit)) r ⌝ }
 {
     let count = sheet::word_at(sheet, word);
     if count == 0 {

@@ -15,7 +15,7 @@ wrapping-add-usize-requires-2 c κs = search needs
 
 returns : tie.Need-returns
 returns c =
-    list-passed _ _ _ _ _ (c .before .before .before .before .good .0 .0) (c .before .before .wrapping-add-usize .ensures) (c .before .word-at .ensures) (c .wrapping-add-usize2 .ensures)
+    list-passed _ _ _ _ _ (c .before .before .before .before .fits .word .fits) (c .before .before .wrapping-add-usize .ensures) (c .before .word-at .ensures) (c .wrapping-add-usize2 .ensures)
 
 pub after-list-spec : {M : Type 1} → statement M
 after-list-spec =

@@ -12,7 +12,7 @@ word-at-requires c κs = search needs
 
 returns : tie.Need-returns
 returns c =
-    indices-counted _ _ _ _ (c .before .before .before .good .0 .0) (c .before .wrapping-add-usize .ensures) (c .word-at .ensures)
+    indices-counted _ _ _ _ (c .before .before .before .fits .word .fits) (c .before .wrapping-add-usize .ensures) (c .word-at .ensures)
 
 pub counted-at-spec : {M : Type 1} → statement M
 counted-at-spec = tie.close (tie.spec wrapping-add-usize-requires word-at-requires returns)

@@ -1,9 +1,10 @@
 -- `indices_at` chooses by the tag. Assumes nothing.
+use mathlib.Core.Path.{_∙_}
 use mathlib.Core.Logic.{inl, inr, ⊎-elim}
 use Rattle.format.specs.Kinds.{kindOf}
 use Rattle.format.proofs.LawsKinds.{kind-plain}
-use Rattle.kinds.specs.Indices.{Named}
-use Rattle.kinds.proofs.LawsIndices.{counted-unwrapped, one-found, view-found, strided-found, none-found}
+use Rattle.kinds.specs.Indices.{indices}
+use Rattle.kinds.proofs.LawsIndices.{passed-on, counted-on, found, found-here}
 use borrow.Author.Needs.{needs}
 use Rattle.kinds.proofs.indices_at.Statement.{statement}
 use Rattle.kinds.proofs.indices_at.Tie as tie
@@ -27,39 +28,40 @@ after-list-requires-3 : tie.Need-after-list-requires-3
 after-list-requires-3 c κs = search needs
 
 returns : tie.Need-returns
-unfolding Named kindOf
+unfolding indices kindOf
 returns c =
-    ⊎-elim (λ e. rw e (λ element rest h. one-found _ _ _ _ _ (c .before .before .before .before .good .0 .0) (c .before .wrapping-add-usize2 .ensures) h)) (λ e. rw e (λ element rest h. one-found _ _ _ _ _ (c .before .before .before .before .good .0 .0) (c .before .wrapping-add-usize2 .ensures) h)) (c .match .keys1)
+    let f = found _ _ 1 (c .before .wrapping-add-usize2 .ensures) in ⊎-elim (λ e. rw e f) (λ e. rw e f) (c .match .keys1)
 
 returns-2 : tie.Need-returns-2
-unfolding Named kindOf
-returns-2 c =
-    rw (c .match .keys2) (λ element rest h. one-found _ _ _ _ _ (c .before .before .before .before .good .0 .0) (c .before .before .wrapping-add-usize .ensures) h)
+unfolding indices kindOf
+returns-2 c = rw (c .match .keys2) (found _ _ 1 (c .before .before .wrapping-add-usize .ensures))
 
 returns-3 : tie.Need-returns-3
-unfolding Named kindOf
+unfolding indices kindOf
 returns-3 c =
-    ⊎-elim (λ e. rw e (view-found _ _ _ _ (c .before .before .before .before .before .good .0 .0) (c .before .before .wrapping-add-usize2 .ensures) (c .after-list .ensures))) (λ e. rw e (view-found _ _ _ _ (c .before .before .before .before .before .good .0 .0) (c .before .before .wrapping-add-usize2 .ensures) (c .after-list .ensures))) (c .before .match .keys3)
+    let f = found _ _ 1 (passed-on _ _ _ _ (c .before .before .wrapping-add-usize2 .ensures) (c .after-list .ensures)) in
+    ⊎-elim (λ e. rw e f) (λ e. rw e f) (c .before .match .keys3)
 
 returns-4 : tie.Need-returns-4
-unfolding Named kindOf
-returns-4 c = rw (c .before .match .keys4)
-    (counted-unwrapped _ _ _ (c .before .before .before .before .before .good .0 .0) (c .before .before .before .wrapping-add-usize .ensures)
-    (c .counted-at .ensures))
+unfolding indices kindOf
+returns-4 c = rw (c .before .match .keys4) (c .counted-at .ensures ∙ counted-on _ _ _ (c .before .before .before .wrapping-add-usize .ensures))
 
 returns-5 : tie.Need-returns-5
-unfolding Named kindOf
+unfolding indices kindOf
 returns-5 c =
-    rw (c .before .before .match .keys5) (strided-found _ _ _ _ _ (c .before .before .before .before .before .before .good .0 .0) (c .before .before .before .wrapping-add-usize2 .ensures) (c .before .after-list2 .ensures) (c .after-list3 .ensures))
+    rw (c .before .before .match .keys5)
+    (found _ _ 1
+    (passed-on _ _ _ _ (passed-on _ _ _ _ (c .before .before .before .wrapping-add-usize2 .ensures) (c .before .after-list2 .ensures))
+    (c .after-list3 .ensures)))
 
 returns-6 : tie.Need-returns-6
-unfolding Named kindOf
+unfolding indices kindOf
 returns-6 c =
     let n = c .match .rest in
     let pointer = n .0 .0 .0 .0 .1 in
     let view = n .0 .0 .1 in
     rw (kind-plain _ (λ e. pointer (inl e)) (n .0 .0 .0 .1) (λ e. pointer (inr e)) (λ e. view (inl e)) (n .0 .1) (λ e. view (inr e)) (n .1))
-    (none-found _ _)
+    (found-here _ 0 (c .before .before .before .before .fits .at .fits))
 
 pub indices-at-spec : {M : Type 1} → statement M
 indices-at-spec =

@@ -1,5 +1,5 @@
 -- `put_part` chooses by the part. Assumes nothing.
-use Rattle.kinds.specs.Parts.{PartPut}
+use Rattle.kinds.specs.Parts.{partText}
 use borrow.Author.Needs.{needs}
 use Rattle.kinds.proofs.put_part.Statement.{statement}
 use Rattle.kinds.proofs.put_part.Tie as tie
@@ -20,14 +20,14 @@ same-length : tie.Need-same-length
 same-length c = search needs
 
 returns : tie.Need-returns
-unfolding PartPut
+unfolding partText
 returns c = rw (c .before .before .before .before .enum-told .given .1) (c .before .before .put-opening .ensures)
 
 same-length-2 : tie.Need-same-length-2
 same-length-2 c = search needs
 
 returns-2 : tie.Need-returns-2
-unfolding PartPut
+unfolding partText
 returns-2 c = rw (c .before .before .before .before .before .part .given .1) (c .before .before .put-ending .ensures)
 
 pub put-part-spec : {M : Type 1} → statement M

@@ -9,8 +9,8 @@ use Rattle.format.specs.Names.{named}
 use Rattle.sheet.specs.Store.{wordsIn}
 use Rattle.sheet.proofs.LawsWords.{length-wordsIn}
 use Rattle.text.specs.Text.{Put}
-use Rattle.text.proofs.LawsText.{put-as, put-stopped}
-use Rattle.kinds.specs.Parts.{PartPut}
+use Rattle.text.proofs.LawsText.{put-size, put-as, put-stopped}
+use Rattle.kinds.specs.Parts.{partText}
 use Rattle.names.proofs.LawsDescribed.{earlier}
 use Rattle.names.proofs.LawsListed.{ofType, ofList, earlier-named, later-named, put-into, list-empty, list-last, list-next}
 use Rattle.names.proofs.LawsName.{first-inside, second-inside, type-named, function-named}
@@ -76,11 +76,11 @@ next-named : (t : ℕ) (c : describe-list-lts.Joined2 (
   describe-list-below t,
   describe-list.Post,
 ) (describe-list-at t) describe-list.Post) →
-    let start = c .before .before .before .before .before .before .before in
+    let start = c .before .before .before .before .before .before in
     Put (named (earlier (start .args .sheet .now) (start .args .row)) (getD (wordsIn (start .args .sheet .now)) (start .args .word) 0))
     (start .args .pen) (start .args .out .now) (c .if2 .out) (c .if2 .named)
 next-named t c =
-    let start = c .before .before .before .before .before .before .before in
+    let start = c .before .before .before .before .before .before in
     let s = start .args .sheet .now in
     let row = start .args .row in
     let i = c .before .word-at in
@@ -132,20 +132,6 @@ describe-list-returns-2 : (t : ℕ) → describe-list-lts.Need-returns-2 (
 ) (describe-list-at t) describe-list.Post
 describe-list-returns-2 t c = put-stopped _ (c .enum-told .given .1)
 
-describe-list-enum-told-2 : (t : ℕ) → describe-list-lts.Need-enum-told-2 (
-  word-at-reads.Asked,
-  word-at-reads.Learnt,
-  describe-type-below t,
-  describe-type.Post,
-  put-byte-reads.Asked,
-  put-byte-reads.Learnt,
-  put-text-reads.Asked,
-  put-text-reads.Learnt,
-  describe-list-below t,
-  describe-list.Post,
-) (describe-list-at t) describe-list.Post
-describe-list-enum-told-2 t c = search needs
-
 describe-list-word-at-requires : (t : ℕ) → describe-list-lts.Need-word-at-requires (
   word-at-reads.Asked,
   word-at-reads.Learnt,
@@ -173,7 +159,7 @@ describe-list-describe-type-requires : (t : ℕ) → describe-list-lts.Need-desc
   describe-list.Post,
 ) (describe-list-at t) describe-list.Post
 describe-list-describe-type-requires t c κs =
-    (omega (arith, c .before .before .before .before .before .before .before .before .pre .0, c .before .if2 .taken), omega (arith, c .before .before .before .before .before .before .before .before .pre .1 .0, c .before .if2 .taken))
+    (omega (arith, c .before .before .before .before .before .before .before .pre .0, c .before .if2 .taken), omega (arith, c .before .before .before .before .before .before .before .pre .1 .0, c .before .if2 .taken))
 
 describe-list-put-byte-requires : (t : ℕ) → describe-list-lts.Need-put-byte-requires (
   word-at-reads.Asked,
@@ -201,7 +187,7 @@ describe-list-same-length : (t : ℕ) → describe-list-lts.Need-same-length (
   describe-list-below t,
   describe-list.Post,
 ) (describe-list-at t) describe-list.Post
-describe-list-same-length t c = next-named t (c .before) .size
+describe-list-same-length t c = put-size (next-named t (c .before))
 
 describe-list-returns-3 : (t : ℕ) → describe-list-lts.Need-returns-3 (
   word-at-reads.Asked,
@@ -216,7 +202,7 @@ describe-list-returns-3 : (t : ℕ) → describe-list-lts.Need-returns-3 (
   describe-list.Post,
 ) (describe-list-at t) describe-list.Post
 describe-list-returns-3 t c =
-    list-last _ (c .before .before .before .before .before .before .before .before .args .row) _ _ (c .before .before .before .before .before .before .before .before .pre .1 .1) (c .if3 .taken) (next-named t (c .before))
+    list-last _ (c .before .before .before .before .before .before .before .args .row) _ _ (c .before .before .before .before .before .before .before .pre .1 .1) (c .if3 .taken) (next-named t (c .before))
 
 describe-list-slice-aggregate-put-text : (t : ℕ) → describe-list-lts.Need-slice-aggregate-put-text (
   word-at-reads.Asked,
@@ -259,10 +245,10 @@ describe-list-add-describe-list : (t : ℕ) → describe-list-lts.Need-add-descr
   describe-list.Post,
 ) (describe-list-at t) describe-list.Post
 describe-list-add-describe-list t c =
-    let w = length-wordsIn (c .before .before .before .before .before .before .before .before .before .before .before .before .before .args .sheet .now) in
-    let z = c .before .before .before .before .before .before .before .before .before .before .if1 .left in
-    let h = c .before .before .before .before .before .before .before .before .before .before .before .before .before .pre .1 .1 in
-    record { fits = omega (arith, w, z, h, c .before .before .before .before .before .before .before .before .before .before .before .before .before .good .0 .0) }
+    let w = length-wordsIn (c .before .before .before .before .before .before .before .before .before .before .before .before .args .sheet .now) in
+    let z = c .before .before .before .before .before .before .before .before .before .if1 .left in
+    let h = c .before .before .before .before .before .before .before .before .before .before .before .before .pre .1 .1 in
+    record { fits = omega (arith, w, z, h, c .before .before .before .before .before .before .before .before .before .before .before .before .good .0 .0) }
 
 describe-list-sub-describe-list : (t : ℕ) → describe-list-lts.Need-sub-describe-list (
   word-at-reads.Asked,
@@ -277,7 +263,7 @@ describe-list-sub-describe-list : (t : ℕ) → describe-list-lts.Need-sub-descr
   describe-list.Post,
 ) (describe-list-at t) describe-list.Post
 describe-list-sub-describe-list t c =
-    let z = c .before .before .before .before .before .before .before .before .before .before .if1 .left in omega (arith, z)
+    let z = c .before .before .before .before .before .before .before .before .before .if1 .left in omega (arith, z)
 
 describe-list-describe-list-requires : (t : ℕ) → describe-list-lts.Need-describe-list-requires (
   word-at-reads.Asked,
@@ -292,8 +278,8 @@ describe-list-describe-list-requires : (t : ℕ) → describe-list-lts.Need-desc
   describe-list.Post,
 ) (describe-list-at t) describe-list.Post
 describe-list-describe-list-requires t c κs =
-    let z = c .before .before .before .before .before .before .before .before .before .before .before .if1 .left in
-    let p = c .before .before .before .before .before .before .before .before .before .before .before .before .before .before .pre in
+    let z = c .before .before .before .before .before .before .before .before .before .before .if1 .left in
+    let p = c .before .before .before .before .before .before .before .before .before .before .before .before .before .pre in
     (omega (arith, z, p .0), (p .1 .0, omega (arith, z, p .1 .1)))
 
 describe-list-same-length-2 : (t : ℕ) → describe-list-lts.Need-same-length-2 (
@@ -309,7 +295,7 @@ describe-list-same-length-2 : (t : ℕ) → describe-list-lts.Need-same-length-2
   describe-list.Post,
 ) (describe-list-at t) describe-list.Post
 describe-list-same-length-2 t c =
-    let n = next-named t (c .before .before .before .before .before .before .before .before .before .before) .size in
+    let n = put-size (next-named t (c .before .before .before .before .before .before .before .before .before .before)) in
     search needs
 
 describe-list-returns-4 : (t : ℕ) → describe-list-lts.Need-returns-4 (
@@ -325,7 +311,7 @@ describe-list-returns-4 : (t : ℕ) → describe-list-lts.Need-returns-4 (
   describe-list.Post,
 ) (describe-list-at t) describe-list.Post
 describe-list-returns-4 t c =
-    list-next _ (c .before .before .before .before .before .before .before .before .before .before .before .before .before .before .before .before .before .args .row) _ _ (c .before .before .before .before .before .before .before .before .before .before .before .before .before .before .before .before .before .pre .1 .1) (c .before .before .before .before .before .before .before .before .before .before .before .before .before .before .if1 .left) (c .before .before .before .before .before .before .before .before .before .if3 .left) (next-named t (c .before .before .before .before .before .before .before .before .before .before))
+    list-next _ (c .before .before .before .before .before .before .before .before .before .before .before .before .before .before .before .before .args .row) _ _ (c .before .before .before .before .before .before .before .before .before .before .before .before .before .before .before .before .pre .1 .1) (c .before .before .before .before .before .before .before .before .before .before .before .before .before .if1 .left) (c .before .before .before .before .before .before .before .before .before .if3 .left) (next-named t (c .before .before .before .before .before .before .before .before .before .before))
     (c .before .before .before .before .before .before .put-text .ensures) (c .before .before .describe-list .ensures)
 
 describe-type-row-at-requires : (t : ℕ) → describe-type-lts.Need-row-at-requires (
@@ -417,7 +403,7 @@ describe-type-describe-list-requires : (t : ℕ) → describe-type-lts.Need-desc
   put-byte-reads.Learnt,
 ) (describe-type-at t) describe-type.Post
 describe-type-describe-list-requires t c κs =
-    let i = first-inside _ _ (c .before .before .before .before .before .before .before .before .before .before .pre .1) _ _ (c .before .before .before .before .before .before .before .row-at .ensures) (c .before .before .before .before .before .before .word-at .ensures) _ (c .before .indices-at .ensures) in
+    let i = first-inside _ (c .before .before .before .before .before .before .before .before .before .before .good .0 .0) _ (c .before .before .before .before .before .before .before .before .before .before .pre .1) _ _ (c .before .before .before .before .before .before .before .row-at .ensures) (c .before .before .before .before .before .before .word-at .ensures) _ (c .before .indices-at .ensures) in
     let w = length-wordsIn (c .before .before .before .before .before .before .before .before .before .before .args .sheet .now) in
     (omega (arith, i, w, c .before .before .before .before .before .before .before .before .before .before .good .0 .0, c .before .before .before .before .before .before .before .before .before .before .pre .0), (c .before .before .before .before .before .before .before .before .before .before .pre .1, i))
 
@@ -438,7 +424,7 @@ describe-type-add-behind : (t : ℕ) → describe-type-lts.Need-add-behind (
   put-byte-reads.Learnt,
 ) (describe-type-at t) describe-type.Post
 describe-type-add-behind t c =
-    let i = first-inside _ _ (c .before .before .before .before .before .before .before .before .before .before .before .before .before .before .pre .1) _ _ (c .before .before .before .before .before .before .before .before .before .before .before .row-at .ensures) (c .before .before .before .before .before .before .before .before .before .before .word-at .ensures) _ (c .before .before .before .before .before .indices-at .ensures) in
+    let i = first-inside _ (c .before .before .before .before .before .before .before .before .before .before .before .before .before .before .good .0 .0) _ (c .before .before .before .before .before .before .before .before .before .before .before .before .before .before .pre .1) _ _ (c .before .before .before .before .before .before .before .before .before .before .before .row-at .ensures) (c .before .before .before .before .before .before .before .before .before .before .word-at .ensures) _ (c .before .before .before .before .before .indices-at .ensures) in
     let w = length-wordsIn (c .before .before .before .before .before .before .before .before .before .before .before .before .before .before .args .sheet .now) in
     search needs
 
@@ -512,10 +498,10 @@ describe-type-returns : (t : ℕ) → describe-type-lts.Need-returns (
   put-byte-reads.Asked,
   put-byte-reads.Learnt,
 ) (describe-type-at t) describe-type.Post
-unfolding PartPut
+unfolding partText
 describe-type-returns t c =
-    type-named _ _ (c .before .before .before .before .before .before .before .before .before .before .before .before .before .before .before .before .before .before .before .pre .1) _ _ (c .before .before .before .before .before .before .before .before .before .before .before .before .before .before .before .before .row-at .ensures) (c .before .before .before .before .before .before .before .before .before .before .before .before .before .before .before .word-at .ensures) _ (c .before .before .before .before .before .before .before .before .before .before .indices-at .ensures)
-    _ _ _ _ _ _ _ _ (c .before .before .before .before .before .before .before .before .before .before .before .before .before .put-part .ensures) (c .before .before .before .before .before .before .before .before .describe-list .ensures) _ refl (c .before .before .before .put-part2 .ensures) (c .if1 .taken)
+    type-named _ (c .before .before .before .before .before .before .before .before .before .before .before .before .before .before .before .before .before .before .before .good .0 .0) _ (c .before .before .before .before .before .before .before .before .before .before .before .before .before .before .before .before .before .before .before .pre .1) _ _ (c .before .before .before .before .before .before .before .before .before .before .before .before .before .before .before .before .row-at .ensures) (c .before .before .before .before .before .before .before .before .before .before .before .before .before .before .before .word-at .ensures) _ (c .before .before .before .before .before .before .before .before .before .before .indices-at .ensures) _ refl
+    _ _ _ _ _ _ _ _ (c .before .before .before .before .before .before .before .before .before .before .before .before .before .put-part .ensures) (c .before .before .before .before .before .before .before .before .describe-list .ensures) (c .before .before .before .put-part2 .ensures) (c .if1 .taken)
 
 describe-type-counted-at-requires : (t : ℕ) → describe-type-lts.Need-counted-at-requires (
   row-at-reads.Asked,
@@ -552,7 +538,7 @@ describe-type-describe-list-requires-2 : (t : ℕ) → describe-type-lts.Need-de
   put-byte-reads.Learnt,
 ) (describe-type-at t) describe-type.Post
 describe-type-describe-list-requires-2 t c κs =
-    let i = second-inside _ _ (c .before .before .before .before .before .before .before .before .before .before .before .before .before .before .before .before .before .before .before .before .before .pre .1) _ _ (c .before .before .before .before .before .before .before .before .before .before .before .before .before .before .before .before .before .before .row-at .ensures) (c .before .before .before .before .before .before .before .before .before .before .before .before .before .before .before .before .before .word-at .ensures) _ (c .before .before .before .before .before .before .before .before .before .before .before .before .indices-at .ensures) _ refl (c .before .before .if1 .left) _ (c .before .counted-at .ensures) in
+    let i = second-inside _ (c .before .before .before .before .before .before .before .before .before .before .before .before .before .before .before .before .before .before .before .before .before .good .0 .0) _ (c .before .before .before .before .before .before .before .before .before .before .before .before .before .before .before .before .before .before .before .before .before .pre .1) _ _ (c .before .before .before .before .before .before .before .before .before .before .before .before .before .before .before .before .before .before .row-at .ensures) (c .before .before .before .before .before .before .before .before .before .before .before .before .before .before .before .before .before .word-at .ensures) _ (c .before .before .before .before .before .before .before .before .before .before .before .before .indices-at .ensures) _ refl (c .before .before .if1 .left) _ (c .before .counted-at .ensures) in
     let w = length-wordsIn (c .before .before .before .before .before .before .before .before .before .before .before .before .before .before .before .before .before .before .before .before .before .args .sheet .now) in
     (omega (arith, i, w, c .before .before .before .before .before .before .before .before .before .before .before .before .before .before .before .before .before .before .before .before .before .good .0 .0, c .before .before .before .before .before .before .before .before .before .before .before .before .before .before .before .before .before .before .before .before .before .pre .0), (c .before .before .before .before .before .before .before .before .before .before .before .before .before .before .before .before .before .before .before .before .before .pre .1, i))
 
@@ -608,10 +594,10 @@ describe-type-returns-2 : (t : ℕ) → describe-type-lts.Need-returns-2 (
   put-byte-reads.Asked,
   put-byte-reads.Learnt,
 ) (describe-type-at t) describe-type.Post
-unfolding PartPut
+unfolding partText
 describe-type-returns-2 t c =
-    function-named _ _ (c .before .before .before .before .before .before .before .before .before .before .before .before .before .before .before .before .before .before .before .before .before .before .before .before .before .before .before .before .pre .1) _ _ (c .before .before .before .before .before .before .before .before .before .before .before .before .before .before .before .before .before .before .before .before .before .before .before .before .before .row-at .ensures) (c .before .before .before .before .before .before .before .before .before .before .before .before .before .before .before .before .before .before .before .before .before .before .before .before .word-at .ensures) _ (c .before .before .before .before .before .before .before .before .before .before .before .before .before .before .before .before .before .before .before .indices-at .ensures)
-    _ _ _ _ _ _ _ _ (c .before .before .before .before .before .before .before .before .before .before .before .before .before .before .before .before .before .before .before .before .before .before .put-part .ensures) (c .before .before .before .before .before .before .before .before .before .before .before .before .before .before .before .before .before .describe-list .ensures) _ refl (c .before .before .before .before .before .before .before .before .before .before .before .before .put-part2 .ensures) (c .before .before .before .before .before .before .before .before .before .if1 .left) _
+    function-named _ (c .before .before .before .before .before .before .before .before .before .before .before .before .before .before .before .before .before .before .before .before .before .before .before .before .before .before .before .before .good .0 .0) _ (c .before .before .before .before .before .before .before .before .before .before .before .before .before .before .before .before .before .before .before .before .before .before .before .before .before .before .before .before .pre .1) _ _ (c .before .before .before .before .before .before .before .before .before .before .before .before .before .before .before .before .before .before .before .before .before .before .before .before .before .row-at .ensures) (c .before .before .before .before .before .before .before .before .before .before .before .before .before .before .before .before .before .before .before .before .before .before .before .before .word-at .ensures) _ (c .before .before .before .before .before .before .before .before .before .before .before .before .before .before .before .before .before .before .before .indices-at .ensures) _ refl
+    _ _ _ _ _ _ _ _ (c .before .before .before .before .before .before .before .before .before .before .before .before .before .before .before .before .before .before .before .before .before .before .put-part .ensures) (c .before .before .before .before .before .before .before .before .before .before .before .before .before .before .before .before .before .describe-list .ensures) (c .before .before .before .before .before .before .before .before .before .before .before .before .put-part2 .ensures) (c .before .before .before .before .before .before .before .before .before .if1 .left) _
     (c .before .before .before .before .before .before .before .before .counted-at .ensures) (c .before .before .before .before .before .before .describe-list2 .ensures) (c .before .before .put-byte .ensures)
 
 pub +describe-list+describe-type-spec : {M : Type 1} → statement M
@@ -633,7 +619,6 @@ pub +describe-list+describe-type-spec : {M : Type 1} → statement M
     (describe-list-returns t)
     (describe-list-enum-told t)
     (describe-list-returns-2 t)
-    (describe-list-enum-told-2 t)
     (describe-list-word-at-requires t)
     (describe-list-describe-type-requires t)
     (describe-list-put-byte-requires t)

@@ -36,7 +36,7 @@ same-length c = search needs
 
 returns : tie.Need-returns
 returns c =
-    gather-scatter-view-ending _ (c .before .before .before .before .before .before .before .before .before .before .before .before .before .before .before .before .before .before .before .before .good .0 .0) _ _ _ _ _ _ (c .before .before .before .before .before .before .before .before .before .before .before .before .before .before .before .put-text .ensures) (c .before .before .before .before .before .before .before .before .before .before .before .word-at .ensures) (c .before .before .before .before .before .before .before .before .before .before .put-decimal .ensures) (c .before .before .before .before .before .before .before .wrapping-add-usize .ensures) (c .before .before .before .before .before .before .word-at2 .ensures) (c .before .before .before .before .before .flags-at .ensures) (c .before .before .close .ensures)
+    gather-scatter-view-ending _ _ _ _ _ (c .before .before .before .before .before .flags-at .ensures) _ _ (c .before .before .before .before .before .before .before .before .before .before .before .before .before .before .before .before .before .before .before .before .fits .behind .fits) (c .before .before .before .before .before .before .before .before .before .before .before .before .before .before .before .put-text .ensures) (c .before .before .before .before .before .before .before .before .before .before .before .word-at .ensures) (c .before .before .before .before .before .before .before .before .before .before .put-decimal .ensures) (c .before .before .before .before .before .before .before .wrapping-add-usize .ensures) (c .before .before .before .before .before .before .word-at2 .ensures) (c .before .before .close .ensures)
 
 pub gather-scatter-view-spec : {M : Type 1} → statement M
 gather-scatter-view-spec =

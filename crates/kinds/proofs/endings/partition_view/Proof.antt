@@ -24,7 +24,7 @@ same-length c = search needs
 
 returns : tie.Need-returns
 returns c =
-    partition-view-ending _ (c .before .before .before .before .before .before .before .before .before .before .good .0 .0) _ _ _ _ _ (c .before .before .before .before .before .before .before .after-list .ensures) (c .before .before .before .before .before .before .word-at .ensures) (c .before .before .before .before .before .flags-at .ensures) (c .before .before .close .ensures)
+    partition-view-ending _ _ _ _ _ (c .before .before .before .before .before .flags-at .ensures) _ (c .before .before .before .before .before .before .before .after-list .ensures) (c .before .before .before .before .before .before .word-at .ensures) (c .before .before .close .ensures)
 
 pub partition-view-spec : {M : Type 1} → statement M
 partition-view-spec =

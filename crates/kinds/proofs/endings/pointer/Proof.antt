@@ -21,7 +21,7 @@ same-length c = search needs
 
 returns : tie.Need-returns
 returns c =
-    pointer-ending _ (c .before .before .before .before .before .before .before .before .before .good .0 .0) _ _ _ _ (c .before .before .before .before .before .before .word-at .ensures) (c .before .before .before .before .before .flags-at .ensures) (c .before .before .close .ensures)
+    pointer-ending _ _ _ _ _ (c .before .before .before .before .before .flags-at .ensures) (c .before .before .before .before .before .before .before .before .before .fits .behind .fits) (c .before .before .before .before .before .before .word-at .ensures) (c .before .before .close .ensures)
 
 pub pointer-spec : {M : Type 1} → statement M
 pointer-spec =

@@ -2,7 +2,7 @@
 use Rattle.format.specs.Kinds.{kindOf}
 use Rattle.format.proofs.LawsKinds.{kind-plain}
 use Rattle.text.proofs.LawsText.{put-nothing}
-use Rattle.kinds.specs.Endings.{Ending}
+use Rattle.kinds.specs.Parts.{ending}
 use borrow.Author.Needs.{needs}
 use Rattle.kinds.proofs.endings.put_ending.Statement.{statement}
 use Rattle.kinds.proofs.endings.put_ending.Tie as tie
@@ -35,53 +35,53 @@ same-length : tie.Need-same-length
 same-length c = search needs
 
 returns : tie.Need-returns
-unfolding Ending kindOf
+unfolding ending kindOf
 returns c = rw (c .before .before .before .before .match .keys1) (c .before .before .pointer .ensures)
 
 same-length-2 : tie.Need-same-length-2
 same-length-2 c = search needs
 
 returns-2 : tie.Need-returns-2
-unfolding Ending kindOf
+unfolding ending kindOf
 returns-2 c = rw (c .before .before .before .before .match .keys2) (c .before .before .put-byte .ensures)
 
 same-length-3 : tie.Need-same-length-3
 same-length-3 c = search needs
 
 returns-3 : tie.Need-returns-3
-unfolding Ending kindOf
+unfolding ending kindOf
 returns-3 c = rw (c .before .before .before .before .match .keys3) (c .before .before .tensor-view .ensures)
 
 same-length-4 : tie.Need-same-length-4
 same-length-4 c = search needs
 
 returns-4 : tie.Need-returns-4
-unfolding Ending kindOf
+unfolding ending kindOf
 returns-4 c = rw (c .before .before .before .before .match .keys4) (c .before .before .partition-view .ensures)
 
 same-length-5 : tie.Need-same-length-5
 same-length-5 c = search needs
 
 returns-5 : tie.Need-returns-5
-unfolding Ending kindOf
+unfolding ending kindOf
 returns-5 c = rw (c .before .before .before .before .before .match .keys5) (c .before .before .put-text .ensures)
 
 same-length-6 : tie.Need-same-length-6
 same-length-6 c = search needs
 
 returns-6 : tie.Need-returns-6
-unfolding Ending kindOf
+unfolding ending kindOf
 returns-6 c = rw (c .before .before .before .before .match .keys6) (c .before .before .gather-scatter-view .ensures)
 
 same-length-7 : tie.Need-same-length-7
 same-length-7 c = search needs
 
 returns-7 : tie.Need-returns-7
-unfolding Ending kindOf
+unfolding ending kindOf
 returns-7 c = rw (c .before .before .before .before .match .keys7) (c .before .before .strided-view .ensures)
 
 returns-8 : tie.Need-returns-8
-unfolding Ending kindOf
+unfolding ending kindOf
 returns-8 c =
     let n = (c .match .rest) in rw (kind-plain _ (n .0 .0 .0 .0 .0 .0 .1) (n .0 .0 .0 .0 .0 .1) (n .0 .0 .0 .0 .1) (n .0 .0 .0 .1) (n .0 .0 .1) (n .0 .1) (n .1)) put-nothing
 

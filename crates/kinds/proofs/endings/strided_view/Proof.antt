@@ -36,7 +36,7 @@ same-length c = search needs
 
 returns : tie.Need-returns
 returns c =
-    strided-view-ending _ (c .before .before .before .before .before .before .before .before .before .before .before .before .before .before .before .before .before .before .before .before .before .before .before .good .0 .0) _ _ _ _ _ (c .before .before .before .before .before .before .before .before .before .before .before .before .before .before .before .before .before .before .put-text .ensures) (c .before .before .before .before .before .before .before .before .before .before .before .before .before .before .put-list .ensures) (c .before .before .before .before .before .before .before .before .before .before .put-byte .ensures) (c .before .before .before .before .before .before .before .after-list .ensures) (c .before .before .before .before .before .before .word-at .ensures) (c .before .before .before .before .before .flags-at .ensures) (c .before .before .close .ensures)
+    strided-view-ending _ _ _ _ _ (c .before .before .before .before .before .flags-at .ensures) _ (c .before .before .before .before .before .before .before .before .before .before .before .before .before .before .before .before .before .before .put-text .ensures) (c .before .before .before .before .before .before .before .before .before .before .before .before .before .before .put-list .ensures) (c .before .before .before .before .before .before .before .before .before .before .put-byte .ensures) (c .before .before .before .before .before .before .before .after-list .ensures) (c .before .before .before .before .before .before .word-at .ensures) (c .before .before .close .ensures)
 
 pub strided-view-spec : {M : Type 1} → statement M
 strided-view-spec =

@@ -39,7 +39,7 @@ same-length c = search needs
 
 returns : tie.Need-returns
 returns c =
-    tensor-view-ending _ (c .before .before .before .before .before .before .before .before .before .before .before .before .before .before .before .before .before .before .before .before .before .before .before .before .good .0 .0) _ _ _ _ _ _ (c .before .before .before .before .before .before .before .before .before .before .before .before .before .before .before .before .before .before .before .before .before .after-list .ensures) (c .before .before .before .before .before .before .before .before .before .before .before .before .before .before .before .before .before .before .put-text .ensures) (c .before .before .before .before .before .before .before .before .before .before .before .before .before .before .put-list .ensures) (c .before .before .before .before .before .before .before .before .before .before .put-byte .ensures) (c .before .before .before .before .before .before .before .after-list2 .ensures) (c .before .before .before .before .before .before .word-at .ensures) (c .before .before .before .before .before .flags-at .ensures) (c .before .before .close .ensures)
+    tensor-view-ending _ _ _ _ _ (c .before .before .before .before .before .flags-at .ensures) _ _ (c .before .before .before .before .before .before .before .before .before .before .before .before .before .before .before .before .before .before .before .before .before .after-list .ensures) (c .before .before .before .before .before .before .before .before .before .before .before .before .before .before .before .before .before .before .put-text .ensures) (c .before .before .before .before .before .before .before .before .before .before .before .before .before .before .put-list .ensures) (c .before .before .before .before .before .before .before .before .before .before .put-byte .ensures) (c .before .before .before .before .before .before .before .after-list2 .ensures) (c .before .before .before .before .before .before .word-at .ensures) (c .before .before .close .ensures)
 
 pub tensor-view-spec : {M : Type 1} → statement M
 tensor-view-spec =

@@ -18,7 +18,7 @@ same-length c = search needs
 
 returns : tie.Need-returns
 returns c =
-    shape-put _ (c .before .before .before .before .before .before .before .before .before .before .before .before .good .0 .0) _ _ _ (c .before .before .before .before .before .before .before .before .wrapping-add-usize .ensures) (c .before .before .before .before .before .before .put-text .ensures) (c .before .before .put-list .ensures)
+    shape-put _ _ _ _ (c .before .before .before .before .before .before .before .before .wrapping-add-usize .ensures) (c .before .before .before .before .before .before .put-text .ensures) (c .before .before .put-list .ensures)
 
 pub shape-spec : {M : Type 1} → statement M
 shape-spec =

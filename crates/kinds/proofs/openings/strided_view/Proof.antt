@@ -36,7 +36,7 @@ same-length c = search needs
 
 returns : tie.Need-returns
 returns c =
-    strided-view-opening _ (c .before .before .before .before .before .before .before .before .before .before .before .before .before .before .before .before .before .before .before .before .before .before .before .good .0 .0) _ _ _ (c .before .before .before .before .before .before .before .before .before .before .before .before .before .before .before .before .before .before .shape .ensures) (c .before .before .before .before .before .before .before .before .before .before .before .before .before .put-text .ensures) (c .before .before .before .before .before .before .before .before .before .before .wrapping-add-usize .ensures) (c .before .before .before .before .before .before .before .before .before .after-list .ensures) (c .before .before .before .before .before .before .before .put-list .ensures) (c .before .before .put-text2 .ensures)
+    strided-view-opening _ _ _ _ _ (c .before .before .before .before .before .before .before .before .before .before .before .before .before .before .before .before .before .before .shape .ensures) (c .before .before .before .before .before .before .before .before .before .before .before .before .before .put-text .ensures) (c .before .before .before .before .before .before .before .before .before .before .wrapping-add-usize .ensures) (c .before .before .before .before .before .before .before .before .before .after-list .ensures) (c .before .before .before .before .before .before .before .put-list .ensures) (c .before .before .put-text2 .ensures)
 
 pub strided-view-spec : {M : Type 1} → statement M
 strided-view-spec =

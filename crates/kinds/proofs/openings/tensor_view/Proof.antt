@@ -24,7 +24,7 @@ same-length c = search needs
 
 returns : tie.Need-returns
 returns c =
-    tensor-view-opening _ (c .before .before .before .before .before .before .before .before .before .before .before .before .before .before .before .before .good .0 .0) _ _ (c .before .before .before .before .before .before .before .before .before .before .before .before .before .wrapping-add-usize .ensures) (c .before .before .before .before .before .before .before .before .before .before .put-text .ensures) (c .before .before .before .before .before .before .put-list .ensures) (c .before .before .put-byte .ensures)
+    tensor-view-opening _ _ _ _ (c .before .before .before .before .before .before .before .before .before .before .before .before .before .wrapping-add-usize .ensures) (c .before .before .before .before .before .before .before .before .before .before .put-text .ensures) (c .before .before .before .before .before .before .put-list .ensures) (c .before .before .put-byte .ensures)
 
 pub tensor-view-spec : {M : Type 1} → statement M
 tensor-view-spec =

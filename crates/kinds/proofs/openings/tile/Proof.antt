@@ -24,7 +24,7 @@ same-length c = search needs
 
 returns : tie.Need-returns
 returns c =
-    tile-scalar _ (c .before .before .before .before .before .before .before .before .before .before .before .before .before .before .good .0 .0) _ _ _ (c .before .before .before .before .before .before .before .before .before .before .before .wrapping-add-usize .ensures) (c .before .before .before .before .before .before .before .before .put-text .ensures) (c .before .before .before .before .put-list .ensures) (c .before .word-at .ensures) (c .if1 .taken)
+    tile-scalar _ _ _ _ _ (c .before .before .before .before .before .before .before .before .before .before .before .wrapping-add-usize .ensures) (c .before .before .before .before .before .before .before .before .put-text .ensures) (c .before .before .before .before .put-list .ensures) (c .before .word-at .ensures) (c .if1 .taken)
 
 put-byte-requires : tie.Need-put-byte-requires
 put-byte-requires c κs = search needs
@@ -34,7 +34,7 @@ same-length-2 c = search needs
 
 returns-2 : tie.Need-returns-2
 returns-2 c =
-    tile-ranked _ (c .before .before .before .before .before .before .before .before .before .before .before .before .before .before .before .before .before .before .good .0 .0) _ _ _ (c .before .before .before .before .before .before .before .before .before .before .before .before .before .before .before .wrapping-add-usize .ensures) (c .before .before .before .before .before .before .before .before .before .before .before .before .put-text .ensures) (c .before .before .before .before .before .before .before .before .put-list .ensures) (c .before .before .before .before .before .word-at .ensures) (c .before .before .before .before .if1 .left) (c .before .before .put-byte .ensures)
+    tile-ranked _ _ _ _ _ (c .before .before .before .before .before .before .before .before .before .before .before .before .before .before .before .wrapping-add-usize .ensures) (c .before .before .before .before .before .before .before .before .before .before .before .before .put-text .ensures) (c .before .before .before .before .before .before .before .before .put-list .ensures) (c .before .before .before .before .before .word-at .ensures) (c .before .before .before .before .if1 .left) (c .before .before .put-byte .ensures)
 
 pub tile-spec : {M : Type 1} → statement M
 tile-spec =

@@ -1,5 +1,5 @@
 -- `view` puts the kind, the shape, and what comes before the name. Assumes nothing.
-use Rattle.kinds.proofs.LawsOpenings.{view-opening}
+use Rattle.text.proofs.LawsText.{put-then}
 use borrow.Author.Needs.{needs}
 use Rattle.kinds.proofs.openings.view.Statement.{statement}
 use Rattle.kinds.proofs.openings.view.Tie as tie
@@ -18,7 +18,7 @@ same-length c = search needs
 
 returns : tie.Need-returns
 returns c =
-    view-opening _ (c .before .before .before .before .before .before .before .shape .ensures) (c .before .before .put-text .ensures)
+    put-then (c .before .before .before .before .before .before .before .shape .ensures) (c .before .before .put-text .ensures)
 
 pub view-spec : {M : Type 1} → statement M
 view-spec =

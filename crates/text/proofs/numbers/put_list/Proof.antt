@@ -8,7 +8,7 @@ word-at-requires : tie.Need-word-at-requires
 word-at-requires c κs = search needs
 
 returns : tie.Need-returns
-returns c = list-none _ _ (c .before .word-at .ensures) (c .if1 .taken)
+returns c = list-none _ _ _ _ _ (c .before .before .before .before .fits .word .fits) (c .before .word-at .ensures) (c .if1 .taken)
 
 wrapping-add-usize-requires : tie.Need-wrapping-add-usize-requires
 wrapping-add-usize-requires c κs = search needs
@@ -34,7 +34,7 @@ same-length c = search needs
 returns-2 : tie.Need-returns-2
 returns-2 c =
     let start = c .before .before .before .before .before .before .before .before .before .before .before .before .before .before .before in
-    list-some _ _ _ _ _ (start .good .0 .0) (c .before .before .before .before .before .before .before .before .before .before .before .before .word-at .ensures) (c .before .before .before .before .before .before .before .before .before .before .before .if1 .left)
+    list-some _ _ _ _ _ _ _ _ (start .fits .word .fits) (c .before .before .before .before .before .before .before .before .before .before .before .before .word-at .ensures) (c .before .before .before .before .before .before .before .before .before .before .before .if1 .left)
     (c .before .before .before .before .before .before .before .before .before .before .wrapping-add-usize .ensures) (c .before .before .before .before .before .before .before .before .word-at2 .ensures) (c .before .before .before .before .before .before .before .put-number .ensures)
     (c .before .before .before .before .wrapping-add-usize2 .ensures) (c .before .before .put-more .ensures)
 

@@ -26,7 +26,7 @@ same-length : tie.Need-same-length
 same-length c = search needs
 
 returns : tie.Need-returns
-returns c = dynamic-put (c .before .before .before .before .before .enum-told3 .given .1) (c .before .before .before .before .if1 .taken) (c .before .before .put-byte .ensures)
+returns c = dynamic-put _ _ (c .before .before .before .before .before .enum-told3 .given .1) (c .before .before .before .before .if1 .taken) (c .before .before .put-byte .ensures)
 
 put-signed-requires-3 : tie.Need-put-signed-requires-3
 put-signed-requires-3 c κs = search needs
@@ -35,20 +35,20 @@ same-length-2 : tie.Need-same-length-2
 same-length-2 c = search needs
 
 returns-2 : tie.Need-returns-2
-returns-2 c = i32-put (c .before .before .before .before .enum-told .given .1) (c .before .before .put-signed .ensures)
+returns-2 c = i32-put _ _ (c .before .before .before .before .enum-told .given .1) (c .before .before .put-signed .ensures)
 
 same-length-3 : tie.Need-same-length-3
 same-length-3 c = search needs
 
 returns-3 : tie.Need-returns-3
-returns-3 c = i64-put (c .before .before .before .before .enum-told2 .given .1) (c .before .before .before .before .before .before .before .fits .v .fits) (c .before .before .put-signed2 .ensures)
+returns-3 c = i64-put _ _ (c .before .before .before .before .enum-told2 .given .1) (c .before .before .put-signed2 .ensures)
 
 same-length-4 : tie.Need-same-length-4
 same-length-4 c = search needs
 
 returns-4 : tie.Need-returns-4
 returns-4 c =
-    dimension-put (c .before .before .before .before .before .enum-told3 .given .1) (c .before .before .before .before .before .before .before .before .fits .v .fits) (c .before .before .before .before .if1 .left)
+    dimension-put _ _ (c .before .before .before .before .before .enum-told3 .given .1) (c .before .before .before .before .if1 .left)
     (c .before .before .put-signed3 .ensures)
 
 pub put-number-spec : {M : Type 1} → statement M

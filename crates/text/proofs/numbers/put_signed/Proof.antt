@@ -16,8 +16,8 @@ returns c = signed-put _ _ (c .before .before .before .before .if1 .taken) (c .b
 put-byte-requires : tie.Need-put-byte-requires
 put-byte-requires c κs = search needs
 
-wrapping-sub-u64-requires : tie.Need-wrapping-sub-u64-requires
-wrapping-sub-u64-requires c κs = search needs
+sub-put-decimal : tie.Need-sub-put-decimal
+sub-put-decimal c = search needs
 
 put-decimal-requires-2 : tie.Need-put-decimal-requires-2
 put-decimal-requires-2 c κs = search needs
@@ -27,11 +27,8 @@ same-length-2 c = search needs
 
 returns-2 : tie.Need-returns-2
 returns-2 c =
-    let start = c .before .before .before .before .before .before .before .before .before .before .before in
-    let minus = c .before .before .before .before .before .before .before in
-    let sub = c .before .before .before .wrapping-sub-u64 in
-    minus-put _ _ _ (minus .before .before .if1 .left) (start .fits .half .fits) (sub .ok) (minus .put-byte .ensures) (sub .ensures)
-    (c .before .before .put-decimal2 .ensures)
+    minus-put _ _ (c .before .before .before .before .before .before .before .before .if1 .left) (c .before .before .before .before .before .before .before .before .before .before .pre)
+    (c .before .before .before .before .before .before .put-byte .ensures) (c .before .before .put-decimal2 .ensures)
 
 pub put-signed-spec : {M : Type 1} → statement M
 put-signed-spec =
@@ -41,7 +38,7 @@ put-signed-spec =
     same-length
     returns
     put-byte-requires
-    wrapping-sub-u64-requires
+    sub-put-decimal
     put-decimal-requires-2
     same-length-2
     returns-2)
