@@ -1,6 +1,5 @@
 -- The parts of a type's text that have no names, by kind (document 02, request 1/14, in the words of
 -- `decode_type_entry`), over the words of any sheet. A row is at the word of its tag. Assumes nothing.
-use Prim.Native.String.{String}
 use Prim.Native.Nat.{ℕ, _+_}
 use mathlib.Core.List.{List, [], _++_, map}
 use Rattle.format.specs.Kinds.{Kind, a-pointer, a-tile, a-tensor-view, a-partition-view, a-function, a-gather-scatter-view, a-strided-view, a-plain, kindOf}
@@ -27,23 +26,23 @@ opening a-strided-view tag ws at =
 opening a-function tag ws at = ascii "("
 opening a-plain tag ws at = nameOfTag scalarNames tag
 
--- What is there if bit 0 of the flags is set, which stand behind the tag, and the end of the text.
-abbrev pub closed : List ℕ → ℕ → String → ℕ → List ℕ
-closed ws at name value = ifBit0 (word ws (at + 1)) (ascii name ++ decimal value) ++ ascii ">"
+-- What is there if bit 0 of the flags is set, which stand behind the tag: a name and the value at a place; and the end.
+unfoldable pub closed : List ℕ → ℕ → List ℕ → ℕ → List ℕ
+closed ws at name place = ifBit0 (word ws (at + 1)) (name ++ decimal (word ws place)) ++ ascii ">"
 
 -- What stands behind the names, whose words end before `behind`; of a function type, up to its results.
 unfoldable pub ending : Kind → List ℕ → ℕ → ℕ → List ℕ
-ending a-pointer ws at behind = closed ws at ", ptr_attr=" (word ws behind)
+ending a-pointer ws at behind = closed ws at (ascii ", ptr_attr=") behind
 ending a-tile ws at behind = ascii ">"
 ending a-tensor-view ws at behind =
     ascii ", strides=[" ++ (joined "," (map dimension (counted ws (afterList ws behind))) ++
-    (ascii "]" ++ closed ws at ", ptr_attr=" (word ws (afterList ws (afterList ws behind)))))
-ending a-partition-view ws at behind = closed ws at ", padding=" (word ws (afterList ws behind))
+    (ascii "]" ++ closed ws at (ascii ", ptr_attr=") (afterList ws (afterList ws behind))))
+ending a-partition-view ws at behind = closed ws at (ascii ", padding=") (afterList ws behind)
 ending a-gather-scatter-view ws at behind =
-    ascii ", sparse_dim=" ++ (decimal (word ws behind) ++ closed ws at ", padding=" (word ws (behind + 1)))
+    ascii ", sparse_dim=" ++ (decimal (word ws behind) ++ closed ws at (ascii ", padding=") (behind + 1))
 ending a-strided-view ws at behind =
     ascii ", dim_map=[" ++ (joined "," (map low32 (counted ws behind)) ++
-    (ascii "]" ++ closed ws at ", padding=" (word ws (afterList ws behind))))
+    (ascii "]" ++ closed ws at (ascii ", padding=") (afterList ws behind)))
 ending a-function ws at behind = ascii ") -> ("
 ending a-plain ws at behind = []
 

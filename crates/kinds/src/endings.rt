@@ -1,13 +1,8 @@
 // What stands behind the names in a type's text, by kind. `behind` is the word behind the index.
-ghost use mathlib.Core.Path.{_≡_};
-ghost use mathlib.Core.List.{_++_};
-ghost use Prim.Native.Nat.{_+_};
-ghost use Rattle.format.specs.Kinds.{a-pointer, a-tensor-view, a-partition-view, a-gather-scatter-view, a-strided-view, kindOf};
-ghost use Rattle.format.specs.Names.{ascii, decimal, ifBit0};
+ghost use Rattle.format.specs.Kinds.{a-tensor-view, a-gather-scatter-view, a-strided-view, kindOf};
 ghost use Rattle.sheet.specs.Store.{wordsIn};
 ghost use Rattle.text.specs.Text.{Put};
-ghost use Rattle.text.specs.Counted.{word};
-ghost use Rattle.kinds.specs.Parts.{ending};
+ghost use Rattle.kinds.specs.Parts.{closed, ending};
 use crate::after_list;
 use text::Pen;
 use text::numbers::Number;
@@ -16,37 +11,18 @@ use text::numbers::put_list;
 use text::put_byte;
 use text::put_text;
 
-// What is there if bit 0 of the flags is set: its name and its value.
-fn optional(flags: u64, name: &[u8], value: u64, out: &mut [u8], pen: Pen) -> Pen
-    ensures { λ r. ⌜ Put (ifBit0 flags (now (name .entry) ++ decimal value)) pen (now (out .entry)) (now (out .exit)) r ⌝ }
+// What is there if bit 0 of the row's flags is set, which stand behind its tag: a name and the value at a word; and the end
+// of the text.
+fn close(sheet: &[u8], at: usize, name: &[u8], word: usize, out: &mut [u8], pen: Pen) -> Pen
+    ensures { λ r. ⌜ Put (closed (wordsIn (now (sheet .entry))) at (now (name .entry)) word) pen (now (out .entry)) (now (out .exit)) r ⌝ }
 {
-    if flags % 2 == 1 {
-        let named = put_text(out, pen, name);
-        return put_decimal(out, named, value);
+    let flags = sheet::word_at(sheet, std::num::wrapping_add_usize(at, 1));
+    if flags % 2 != 1 {
+        return put_byte(out, pen, b'>');
     }
-    pen
-}
-
-// The same, and the end of the text.
-fn close(flags: u64, name: &[u8], value: u64, out: &mut [u8], pen: Pen) -> Pen
-    ensures { λ r. ⌜ Put (ifBit0 flags (now (name .entry) ++ decimal value) ++ ascii ">") pen (now (out .entry)) (now (out .exit)) r ⌝ }
-{
-    let last = optional(flags, name, value, out, pen);
-    put_byte(out, last, b'>')
-}
-
-// The flags of a row, which stand behind its tag.
-fn flags_at(sheet: &[u8], at: usize) -> u64
-    ensures { λ r. ⌜ r ≡ word (wordsIn (now (sheet .entry))) (at + 1) ⌝ }
-{
-    sheet::word_at(sheet, std::num::wrapping_add_usize(at, 1))
-}
-
-fn pointer(sheet: &[u8], at: usize, behind: usize, out: &mut [u8], pen: Pen) -> Pen
-    ensures { λ r. ⌜ Put (ending a-pointer (wordsIn (now (sheet .entry))) at behind) pen (now (out .entry)) (now (out .exit)) r ⌝ }
-{
-    let attribute = sheet::word_at(sheet, behind);
-    close(flags_at(sheet, at), b", ptr_attr=", attribute, out, pen)
+    let named = put_text(out, pen, name);
+    let valued = put_decimal(out, named, sheet::word_at(sheet, word));
+    put_byte(out, valued, b'>')
 }
 
 // Behind the element of a tensor view stand its shape, its strides and its attribute.
@@ -57,15 +33,14 @@ fn tensor_view(sheet: &[u8], at: usize, behind: usize, out: &mut [u8], pen: Pen)
     let opened = put_text(out, pen, b", strides=[");
     let strides = put_list(sheet, word, Number::Dynamic, b',', out, opened);
     let shut = put_byte(out, strides, b']');
-    let attribute = sheet::word_at(sheet, after_list(sheet, word));
-    close(flags_at(sheet, at), b", ptr_attr=", attribute, out, shut)
-}
-
-fn partition_view(sheet: &[u8], at: usize, behind: usize, out: &mut [u8], pen: Pen) -> Pen
-    ensures { λ r. ⌜ Put (ending a-partition-view (wordsIn (now (sheet .entry))) at behind) pen (now (out .entry)) (now (out .exit)) r ⌝ }
-{
-    let padding = sheet::word_at(sheet, after_list(sheet, behind));
-    close(flags_at(sheet, at), b", padding=", padding, out, pen)
+    close(
+        sheet,
+        at,
+        b", ptr_attr=",
+        after_list(sheet, word),
+        out,
+        shut,
+    )
 }
 
 fn gather_scatter_view(sheet: &[u8], at: usize, behind: usize, out: &mut [u8], pen: Pen) -> Pen
@@ -73,8 +48,8 @@ fn gather_scatter_view(sheet: &[u8], at: usize, behind: usize, out: &mut [u8], p
 {
     let named = put_text(out, pen, b", sparse_dim=");
     let sparse = put_decimal(out, named, sheet::word_at(sheet, behind));
-    let padding = sheet::word_at(sheet, std::num::wrapping_add_usize(behind, 1));
-    close(flags_at(sheet, at), b", padding=", padding, out, sparse)
+    let padding = std::num::wrapping_add_usize(behind, 1);
+    close(sheet, at, b", padding=", padding, out, sparse)
 }
 
 fn strided_view(sheet: &[u8], at: usize, behind: usize, out: &mut [u8], pen: Pen) -> Pen
@@ -83,8 +58,14 @@ fn strided_view(sheet: &[u8], at: usize, behind: usize, out: &mut [u8], pen: Pen
     let opened = put_text(out, pen, b", dim_map=[");
     let dims = put_list(sheet, behind, Number::I32, b',', out, opened);
     let shut = put_byte(out, dims, b']');
-    let padding = sheet::word_at(sheet, after_list(sheet, behind));
-    close(flags_at(sheet, at), b", padding=", padding, out, shut)
+    close(
+        sheet,
+        at,
+        b", padding=",
+        after_list(sheet, behind),
+        out,
+        shut,
+    )
 }
 
 // What stands behind the names, by kind; of a function type, up to its results.
@@ -92,10 +73,17 @@ pub fn put_ending(sheet: &[u8], tag: u64, at: usize, behind: usize, out: &mut [u
     ensures { λ r. ⌜ Put (ending (kindOf tag) (wordsIn (now (sheet .entry))) at behind) pen (now (out .entry)) (now (out .exit)) r ⌝ }
 {
     match tag {
-        12 => pointer(sheet, at, behind, out, pen),
+        12 => close(sheet, at, b", ptr_attr=", behind, out, pen),
         13 => put_byte(out, pen, b'>'),
         14 => tensor_view(sheet, at, behind, out, pen),
-        15 => partition_view(sheet, at, behind, out, pen),
+        15 => close(
+            sheet,
+            at,
+            b", padding=",
+            after_list(sheet, behind),
+            out,
+            pen,
+        ),
         16 => put_text(out, pen, b") -> ("),
         20 => gather_scatter_view(sheet, at, behind, out, pen),
         21 => strided_view(sheet, at, behind, out, pen),

@@ -177,7 +177,8 @@ module _ (s : List ℕ) (fit : length (wordsIn s) < 2 ^ 64) where
 
       -- What is optional, and the end.
       closed-lies : (name : String) (flags value place : ℕ) (vs us : List ℕ) → Lies ws (at + 1) (flags ∷ vs) → Lies ws place (value ∷ us) →
-          closed ws at name (word ws place) ≡ ifBit0 flags (ascii name ++ decimal value) ++ ascii ">"
+          closed ws at (ascii name) place ≡ ifBit0 flags (ascii name ++ decimal value) ++ ascii ">"
+      unfolding closed
       closed-lies name flags value place vs us h k =
           ap₂ (λ a b. ifBit0 a (ascii name ++ decimal b) ++ ascii ">") (word-lies ws fit flags vs h) (word-lies ws fit value us k)
 

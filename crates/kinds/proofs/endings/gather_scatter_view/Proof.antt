@@ -19,12 +19,6 @@ put-decimal-requires c κs = search needs
 wrapping-add-usize-requires : tie.Need-wrapping-add-usize-requires
 wrapping-add-usize-requires c κs = search needs
 
-word-at-requires-2 : tie.Need-word-at-requires-2
-word-at-requires-2 c κs = search needs
-
-flags-at-requires : tie.Need-flags-at-requires
-flags-at-requires c κs = search needs
-
 slice-aggregate-close : tie.Need-slice-aggregate-close
 slice-aggregate-close c = search needs
 
@@ -36,7 +30,8 @@ same-length c = search needs
 
 returns : tie.Need-returns
 returns c =
-    gather-scatter-view-ending _ _ _ _ _ (c .before .before .before .before .before .flags-at .ensures) _ _ (c .before .before .before .before .before .before .before .before .before .before .before .before .before .before .before .before .before .before .before .before .fits .behind .fits) (c .before .before .before .before .before .before .before .before .before .before .before .before .before .before .before .put-text .ensures) (c .before .before .before .before .before .before .before .before .before .before .before .word-at .ensures) (c .before .before .before .before .before .before .before .before .before .before .put-decimal .ensures) (c .before .before .before .before .before .before .before .wrapping-add-usize .ensures) (c .before .before .before .before .before .before .word-at2 .ensures) (c .before .before .close .ensures)
+    gather-scatter-view-ending _ _ _ _ _ (c .before .before .before .before .before .before .before .before .before .before .before .before .before .before .before .before .before .before .fits .behind .fits) (c .before .before .before .before .before .before .before .before .before .before .before .before .before .put-text .ensures) (c .before .before .before .before .before .before .before .before .before .word-at .ensures)
+    (c .before .before .before .before .before .before .before .before .put-decimal .ensures) (c .before .before .before .before .before .wrapping-add-usize .ensures) (c .before .before .close .ensures)
 
 pub gather-scatter-view-spec : {M : Type 1} → statement M
 gather-scatter-view-spec =
@@ -47,8 +42,6 @@ gather-scatter-view-spec =
     word-at-requires
     put-decimal-requires
     wrapping-add-usize-requires
-    word-at-requires-2
-    flags-at-requires
     slice-aggregate-close
     close-requires
     same-length

@@ -3,12 +3,16 @@ use Rattle.format.specs.Kinds.{kindOf}
 use Rattle.format.proofs.LawsKinds.{kind-plain}
 use Rattle.text.proofs.LawsText.{put-nothing}
 use Rattle.kinds.specs.Parts.{ending}
+use Rattle.kinds.proofs.LawsEndings.{closed-at}
 use borrow.Author.Needs.{needs}
 use Rattle.kinds.proofs.endings.put_ending.Statement.{statement}
 use Rattle.kinds.proofs.endings.put_ending.Tie as tie
 
-pointer-requires : tie.Need-pointer-requires
-pointer-requires c κs = search needs
+slice-aggregate-close : tie.Need-slice-aggregate-close
+slice-aggregate-close c = search needs
+
+close-requires : tie.Need-close-requires
+close-requires c κs = search needs
 
 put-byte-requires : tie.Need-put-byte-requires
 put-byte-requires c κs = search needs
@@ -16,8 +20,14 @@ put-byte-requires c κs = search needs
 tensor-view-requires : tie.Need-tensor-view-requires
 tensor-view-requires c κs = search needs
 
-partition-view-requires : tie.Need-partition-view-requires
-partition-view-requires c κs = search needs
+slice-aggregate-close-2 : tie.Need-slice-aggregate-close-2
+slice-aggregate-close-2 c = search needs
+
+after-list-requires : tie.Need-after-list-requires
+after-list-requires c κs = search needs
+
+close-requires-2 : tie.Need-close-requires-2
+close-requires-2 c κs = search needs
 
 slice-aggregate-put-text : tie.Need-slice-aggregate-put-text
 slice-aggregate-put-text c = search needs
@@ -36,7 +46,7 @@ same-length c = search needs
 
 returns : tie.Need-returns
 unfolding ending kindOf
-returns c = rw (c .before .before .before .before .match .keys1) (c .before .before .pointer .ensures)
+returns c = rw (c .before .before .before .before .before .match .keys1) (c .before .before .close .ensures)
 
 same-length-2 : tie.Need-same-length-2
 same-length-2 c = search needs
@@ -57,7 +67,8 @@ same-length-4 c = search needs
 
 returns-4 : tie.Need-returns-4
 unfolding ending kindOf
-returns-4 c = rw (c .before .before .before .before .match .keys4) (c .before .before .partition-view .ensures)
+returns-4 c =
+    rw (c .before .before .before .before .before .before .match .keys4) (closed-at _ _ _ _ _ (c .before .before .before .before .after-list .ensures) (c .before .before .close2 .ensures))
 
 same-length-5 : tie.Need-same-length-5
 same-length-5 c = search needs
@@ -83,16 +94,20 @@ returns-7 c = rw (c .before .before .before .before .match .keys7) (c .before .b
 returns-8 : tie.Need-returns-8
 unfolding ending kindOf
 returns-8 c =
-    let n = (c .match .rest) in rw (kind-plain _ (n .0 .0 .0 .0 .0 .0 .1) (n .0 .0 .0 .0 .0 .1) (n .0 .0 .0 .0 .1) (n .0 .0 .0 .1) (n .0 .0 .1) (n .0 .1) (n .1)) put-nothing
+    let n = c .match .rest in
+    rw (kind-plain _ (n .0 .0 .0 .0 .0 .0 .1) (n .0 .0 .0 .0 .0 .1) (n .0 .0 .0 .0 .1) (n .0 .0 .0 .1) (n .0 .0 .1) (n .0 .1) (n .1)) put-nothing
 
 pub put-ending-spec : {M : Type 1} → statement M
 put-ending-spec =
     tie.close
     (tie.spec
-    pointer-requires
+    slice-aggregate-close
+    close-requires
     put-byte-requires
     tensor-view-requires
-    partition-view-requires
+    slice-aggregate-close-2
+    after-list-requires
+    close-requires-2
     slice-aggregate-put-text
     put-text-requires
     gather-scatter-view-requires

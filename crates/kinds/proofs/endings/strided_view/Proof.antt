@@ -16,17 +16,11 @@ put-list-requires c κs = search needs
 put-byte-requires : tie.Need-put-byte-requires
 put-byte-requires c κs = search needs
 
-after-list-requires : tie.Need-after-list-requires
-after-list-requires c κs = search needs
-
-word-at-requires : tie.Need-word-at-requires
-word-at-requires c κs = search needs
-
-flags-at-requires : tie.Need-flags-at-requires
-flags-at-requires c κs = search needs
-
 slice-aggregate-close : tie.Need-slice-aggregate-close
 slice-aggregate-close c = search needs
+
+after-list-requires : tie.Need-after-list-requires
+after-list-requires c κs = search needs
 
 close-requires : tie.Need-close-requires
 close-requires c κs = search needs
@@ -36,7 +30,8 @@ same-length c = search needs
 
 returns : tie.Need-returns
 returns c =
-    strided-view-ending _ _ _ _ _ (c .before .before .before .before .before .flags-at .ensures) _ (c .before .before .before .before .before .before .before .before .before .before .before .before .before .before .before .before .before .before .put-text .ensures) (c .before .before .before .before .before .before .before .before .before .before .before .before .before .before .put-list .ensures) (c .before .before .before .before .before .before .before .before .before .before .put-byte .ensures) (c .before .before .before .before .before .before .before .after-list .ensures) (c .before .before .before .before .before .before .word-at .ensures) (c .before .before .close .ensures)
+    strided-view-ending _ _ _ _ (c .before .before .before .before .before .before .before .before .before .before .before .before .before .before .before .before .put-text .ensures) (c .before .before .before .before .before .before .before .before .before .before .before .before .put-list .ensures) (c .before .before .before .before .before .before .before .before .put-byte .ensures)
+    (c .before .before .before .before .after-list .ensures) (c .before .before .close .ensures)
 
 pub strided-view-spec : {M : Type 1} → statement M
 strided-view-spec =
@@ -46,10 +41,8 @@ strided-view-spec =
     put-text-requires
     put-list-requires
     put-byte-requires
-    after-list-requires
-    word-at-requires
-    flags-at-requires
     slice-aggregate-close
+    after-list-requires
     close-requires
     same-length
     returns)

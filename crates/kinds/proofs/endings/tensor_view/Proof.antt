@@ -19,17 +19,11 @@ put-list-requires c κs = search needs
 put-byte-requires : tie.Need-put-byte-requires
 put-byte-requires c κs = search needs
 
-after-list-requires-2 : tie.Need-after-list-requires-2
-after-list-requires-2 c κs = search needs
-
-word-at-requires : tie.Need-word-at-requires
-word-at-requires c κs = search needs
-
-flags-at-requires : tie.Need-flags-at-requires
-flags-at-requires c κs = search needs
-
 slice-aggregate-close : tie.Need-slice-aggregate-close
 slice-aggregate-close c = search needs
+
+after-list-requires-2 : tie.Need-after-list-requires-2
+after-list-requires-2 c κs = search needs
 
 close-requires : tie.Need-close-requires
 close-requires c κs = search needs
@@ -39,7 +33,8 @@ same-length c = search needs
 
 returns : tie.Need-returns
 returns c =
-    tensor-view-ending _ _ _ _ _ (c .before .before .before .before .before .flags-at .ensures) _ _ (c .before .before .before .before .before .before .before .before .before .before .before .before .before .before .before .before .before .before .before .before .before .after-list .ensures) (c .before .before .before .before .before .before .before .before .before .before .before .before .before .before .before .before .before .before .put-text .ensures) (c .before .before .before .before .before .before .before .before .before .before .before .before .before .before .put-list .ensures) (c .before .before .before .before .before .before .before .before .before .before .put-byte .ensures) (c .before .before .before .before .before .before .before .after-list2 .ensures) (c .before .before .before .before .before .before .word-at .ensures) (c .before .before .close .ensures)
+    tensor-view-ending _ _ _ _ _ (c .before .before .before .before .before .before .before .before .before .before .before .before .before .before .before .before .before .before .before .after-list .ensures) (c .before .before .before .before .before .before .before .before .before .before .before .before .before .before .before .before .put-text .ensures) (c .before .before .before .before .before .before .before .before .before .before .before .before .put-list .ensures)
+    (c .before .before .before .before .before .before .before .before .put-byte .ensures) (c .before .before .before .before .after-list2 .ensures) (c .before .before .close .ensures)
 
 pub tensor-view-spec : {M : Type 1} → statement M
 tensor-view-spec =
@@ -50,10 +45,8 @@ tensor-view-spec =
     put-text-requires
     put-list-requires
     put-byte-requires
-    after-list-requires-2
-    word-at-requires
-    flags-at-requires
     slice-aggregate-close
+    after-list-requires-2
     close-requires
     same-length
     returns)
