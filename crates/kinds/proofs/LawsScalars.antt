@@ -1,4 +1,5 @@
--- The names of the scalars, cut out of one text: one computed test over the tags, and the rule at each. Assumes nothing.
+-- The names of the scalars, cut out of one text: one computed test over the tags, and the rule at each. Assumes
+-- nothing.
 use mathlib.Core.Path.{_≡_, refl, sym, ap₂, _∙_}
 use Prim.Native.Nat.{ℕ, zero, suc, _+_, _-_, _≤_, _<_}
 use native.Mathlib.Nat.{not-suc-le-zero}

@@ -1,5 +1,5 @@
--- Where the indices of the names in a type's text stand (document 01, "The sheet": tag, fields in wire order with counts
--- before lists), over the words of any sheet. A row is at the word of its tag. Assumes nothing.
+-- Where the indices of the names in a type's text stand (document 01, "The sheet": tag, fields in wire order with
+-- counts before lists), over the words of any sheet. A row is at the word of its tag. Assumes nothing.
 use Prim.Native.Nat.{ℕ, _+_, _%_, _^_}
 use mathlib.Core.List.{List}
 use Rattle.format.specs.Kinds.{Kind, a-pointer, a-tile, a-tensor-view, a-partition-view, a-function, a-gather-scatter-view, a-strided-view, a-plain}
@@ -14,8 +14,8 @@ from i n = record { word = i % 2 ^ 64; count = n }
 unfoldable pub countedFrom : List ℕ → ℕ → Indices
 countedFrom ws i = from (i + 1) (word ws i)
 
--- .. and those that the text of a row names first, by kind: an element, a view behind its shape and, of a strided view, its
--- strides; the inputs of a function type.
+-- .. and those that the text of a row names first, by kind: an element, a view behind its shape and, of a strided view,
+-- its strides; the inputs of a function type.
 unfoldable pub indices : Kind → List ℕ → ℕ → Indices
 indices a-pointer ws at = from (at + 2) 1
 indices a-tile ws at = from (at + 1) 1

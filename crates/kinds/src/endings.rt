@@ -11,8 +11,8 @@ use text::numbers::put_list;
 use text::put_byte;
 use text::put_text;
 
-// What is there if bit 0 of the row's flags is set, which stand behind its tag: a name and the value at a word; and the end
-// of the text.
+// What is there if bit 0 of the row's flags is set, which stand behind its tag: a name and the value at a word; and the
+// end of the text.
 fn close(sheet: &[u8], at: usize, name: &[u8], word: usize, out: &mut [u8], pen: Pen) -> Pen
     ensures { λ r. ⌜ Put (closed (wordsIn (now (sheet .entry))) at (now (name .entry)) word) pen (now (out .entry)) (now (out .exit)) r ⌝ }
 {
@@ -33,14 +33,8 @@ fn tensor_view(sheet: &[u8], at: usize, behind: usize, out: &mut [u8], pen: Pen)
     let opened = put_text(out, pen, b", strides=[");
     let strides = put_list(sheet, word, Number::Dynamic, b',', out, opened);
     let shut = put_byte(out, strides, b']');
-    close(
-        sheet,
-        at,
-        b", ptr_attr=",
-        after_list(sheet, word),
-        out,
-        shut,
-    )
+    let attribute = after_list(sheet, word);
+    close(sheet, at, b", ptr_attr=", attribute, out, shut)
 }
 
 fn gather_scatter_view(sheet: &[u8], at: usize, behind: usize, out: &mut [u8], pen: Pen) -> Pen
@@ -58,14 +52,8 @@ fn strided_view(sheet: &[u8], at: usize, behind: usize, out: &mut [u8], pen: Pen
     let opened = put_text(out, pen, b", dim_map=[");
     let dims = put_list(sheet, behind, Number::I32, b',', out, opened);
     let shut = put_byte(out, dims, b']');
-    close(
-        sheet,
-        at,
-        b", padding=",
-        after_list(sheet, behind),
-        out,
-        shut,
-    )
+    let padding = after_list(sheet, behind);
+    close(sheet, at, b", padding=", padding, out, shut)
 }
 
 // What stands behind the names, by kind; of a function type, up to its results.
@@ -76,14 +64,10 @@ pub fn put_ending(sheet: &[u8], tag: u64, at: usize, behind: usize, out: &mut [u
         12 => close(sheet, at, b", ptr_attr=", behind, out, pen),
         13 => put_byte(out, pen, b'>'),
         14 => tensor_view(sheet, at, behind, out, pen),
-        15 => close(
-            sheet,
-            at,
-            b", padding=",
-            after_list(sheet, behind),
-            out,
-            pen,
-        ),
+        15 => {
+            let padding = after_list(sheet, behind);
+            close(sheet, at, b", padding=", padding, out, pen)
+        }
         16 => put_text(out, pen, b") -> ("),
         20 => gather_scatter_view(sheet, at, behind, out, pen),
         21 => strided_view(sheet, at, behind, out, pen),

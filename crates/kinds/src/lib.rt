@@ -1,5 +1,5 @@
-// The text of a type, by kind, but for the names of other rows (decoder.rs, `decode_type_entry`): what stands before them,
-// where their indices stand in the sheet, and what stands behind them. A row is handed as the word of its tag.
+// The text of a type, by kind, but for the names of other rows (decoder.rs, `decode_type_entry`): what stands before
+// them, where their indices stand in the sheet, and what stands behind them. A row is handed as the word of its tag.
 mod endings;
 mod openings;
 
@@ -72,8 +72,8 @@ pub fn indices_at(sheet: &[u8], tag: u64, at: usize) -> Indices
     }
 }
 
-// Puts a part. Whoever describes types inside types has one function to call for both, so that what putting them takes of
-// the stack is not taken again at each level.
+// Puts a part. Whoever describes types inside types has one function to call for both, so that what putting them takes
+// of the stack is not taken again at each level.
 pub fn put_part(sheet: &[u8], tag: u64, at: usize, part: Part, out: &mut [u8], pen: Pen) -> Pen
     ensures { λ r. ⌜ Put (partText part tag (wordsIn (now (sheet .entry))) at) pen (now (out .entry)) (now (out .exit)) r ⌝ }
 {

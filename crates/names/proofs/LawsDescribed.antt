@@ -1,4 +1,5 @@
--- What stands before the names, these, and what stands behind them are the text of a row, whatever its kind. Assumes nothing.
+-- What stands before the names, these, and what stands behind them are the text of a row, whatever its kind. Assumes
+-- nothing.
 use mathlib.Core.Path.{_≡_, refl, sym, ap, ap₂, _∙_, subst}
 use Prim.Native.String.{String}
 use Prim.Native.Nat.{ℕ, _+_, _%_, _^_, _≤_, _<_}
@@ -59,8 +60,8 @@ pub record Found (s is rest : List ℕ) (x : Indices) : Type 0 where
   pub lies : Lies (wordsIn s) (x .word) (is ++ rest)
   pub counted : x .count ≡ length is
 
--- Indices that were found are inside the sheet, they are those that are listed, and what stands behind them stands behind
--- their words.
+-- Indices that were found are inside the sheet, they are those that are listed, and what stands behind them stands
+-- behind their words.
 module _ (s : List ℕ) {x : Indices} (is rest : List ℕ) (f : Found s is rest x) where
   pub found-inside : x .word + x .count ≤ length (wordsIn s)
   found-inside = let c = f .counted in omega (arith, lies-inside is (lies-front is rest (f .lies)))
@@ -163,7 +164,8 @@ module _ (s : List ℕ) (fit : length (wordsIn s) < 2 ^ 64) where
         found-counted (at + 1) inputs (countedWords results) (n ∙ ap (λ k. indices (kindOf k) ws at) (e ∙ lies-first _ _ h))
         (lies-back (tagFunc ∷ []) _ h)
 
-    -- The text of a row over its words is that of the row: what stands before its names, these, and what stands behind them.
+    -- The text of a row over its words is that of the row: what stands before its names, these, and what stands
+    -- behind them.
     module _ (names : List (List ℕ)) (behind : ℕ) where
       opened : (k : ℕ) → tag ≡ k → opening (kindOf tag) tag ws at ≡ opening (kindOf k) k ws at
       opened k i = ap (λ j. opening (kindOf j) j ws at) i

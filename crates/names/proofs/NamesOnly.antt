@@ -1,5 +1,5 @@
--- Any two results that the contract of `type_text` allows are equal: the answer, and what is left in the buffer. Assumes
--- nothing.
+-- Any two results that the contract of `type_text` allows are equal: the answer, and what is left in the buffer.
+-- Assumes nothing.
 use mathlib.Core.Path.{_≡_, sym, _∙_}
 use Prim.Native.Nat.{ℕ}
 use mathlib.Core.List.{List}

@@ -1,5 +1,5 @@
--- What the name of a type row of a handed sheet is, and what is answered and left in the buffer (document 02, request 1/14:
--- 12, then 14 for the row, then 11, each leaving the buffer untouched).
+-- What the name of a type row of a handed sheet is, and what is answered and left in the buffer (document 02, request
+-- 1/14: 12, then 14 for the row, then 11, each leaving the buffer untouched).
 use Prim.Native.Nat.{ℕ}
 use native.Mathlib.Decide.{decLe}
 use mathlib.Core.List.{List, []}

@@ -1,5 +1,5 @@
-// The name of a type row of a handed sheet (decoder.rs, `decode_type_entry`): the sheet is judged, the name measured within
-// the room of the buffer, and put. Describing a type and describing a list call each other, on earlier rows only.
+// The name of a type row of a handed sheet (decoder.rs, `decode_type_entry`): the sheet is judged, the name measured
+// within the room of the buffer, and put. Describing a type and describing a list call each other, on earlier rows only.
 ghost use mathlib.Core.Path.{_≡_};
 ghost use Prim.Native.Nat.{_+_, _≤_, _<_};
 ghost use lib.ListN.{length};
@@ -33,7 +33,8 @@ fn row_at(sheet: &[u8], row: u64) -> usize
     word + 1
 }
 
-// Describes a type: what stands before its names, these, and what stands behind them. A function type has a second list.
+// Describes a type: what stands before its names, these, and what stands behind them. A function type has a second
+// list.
 fn describe_type(sheet: &[u8], row: u64, out: &mut [u8], pen: Pen) -> Pen
     requires { ⌜ row < length (typesIn (now sheet)) ⌝ }
     ensures { λ r. ⌜ Put (nameAt (now (sheet .entry)) row) pen (now (out .entry)) (now (out .exit)) r ⌝ }

@@ -1,5 +1,5 @@
--- The text of the numbers of a list (document 02, request 1/14: numbers as `decode_type_entry` prints them), by how they
--- stand in the words of a sheet. Assumes nothing.
+-- The text of the numbers of a list (document 02, request 1/14: numbers as `decode_type_entry` prints them), by how
+-- they stand in the words of a sheet. Assumes nothing.
 use Prim.Native.Nat.{ℕ, _%_, _^_}
 use mathlib.Core.List.{List, [], _∷_, _++_, map}
 use Rattle.exact.specs.Tiling.{join}

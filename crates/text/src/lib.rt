@@ -1,5 +1,5 @@
-// Text put into a lent buffer. The pen tells where the next byte is put, or, to measure, how much room is left: what fills
-// a buffer also measures, and both stop as soon as the room is used up.
+// Text put into a lent buffer. The pen tells where the next byte is put, or, to measure, how much room is left: what
+// fills a buffer also measures, and both stop as soon as the room is used up.
 pub mod numbers;
 
 ghost use mathlib.Core.List.{[], _∷_};

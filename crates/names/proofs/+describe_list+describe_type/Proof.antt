@@ -1,5 +1,5 @@
--- The proof of the cycle of calls {describe_list, describe_type}. A list of a row calls types of earlier rows and the rest of
--- itself, and a type calls lists of its own row: row number and list items left fall. Assumes nothing.
+-- The proof of the cycle of calls {describe_list, describe_type}. A list of a row calls types of earlier rows and the
+-- rest of itself, and a type calls lists of its own row: row number and list items left fall. Assumes nothing.
 use mathlib.Core.Path.{refl, ap, _∙_}
 use mathlib.Core.Logic.{⊎-elim}
 use Prim.Native.Nat.{ℕ, _<_}

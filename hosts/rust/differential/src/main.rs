@@ -12,6 +12,7 @@ mod differences;
 mod files;
 mod floats;
 mod genuine;
+mod kinds;
 mod memory;
 mod names;
 mod readers;

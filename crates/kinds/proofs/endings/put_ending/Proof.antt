@@ -20,11 +20,11 @@ put-byte-requires c κs = search needs
 tensor-view-requires : tie.Need-tensor-view-requires
 tensor-view-requires c κs = search needs
 
-slice-aggregate-close-2 : tie.Need-slice-aggregate-close-2
-slice-aggregate-close-2 c = search needs
-
 after-list-requires : tie.Need-after-list-requires
 after-list-requires c κs = search needs
+
+slice-aggregate-close-2 : tie.Need-slice-aggregate-close-2
+slice-aggregate-close-2 c = search needs
 
 close-requires-2 : tie.Need-close-requires-2
 close-requires-2 c κs = search needs
@@ -68,7 +68,7 @@ same-length-4 c = search needs
 returns-4 : tie.Need-returns-4
 unfolding ending kindOf
 returns-4 c =
-    rw (c .before .before .before .before .before .before .match .keys4) (closed-at _ _ _ _ _ (c .before .before .before .before .after-list .ensures) (c .before .before .close2 .ensures))
+    rw (c .before .before .before .before .before .before .match .keys4) (closed-at _ _ _ _ _ (c .before .before .before .before .before .after-list .ensures) (c .before .before .close2 .ensures))
 
 same-length-5 : tie.Need-same-length-5
 same-length-5 c = search needs
@@ -105,8 +105,8 @@ put-ending-spec =
     close-requires
     put-byte-requires
     tensor-view-requires
-    slice-aggregate-close-2
     after-list-requires
+    slice-aggregate-close-2
     close-requires-2
     slice-aggregate-put-text
     put-text-requires

@@ -16,11 +16,11 @@ put-list-requires c κs = search needs
 put-byte-requires : tie.Need-put-byte-requires
 put-byte-requires c κs = search needs
 
-slice-aggregate-close : tie.Need-slice-aggregate-close
-slice-aggregate-close c = search needs
-
 after-list-requires : tie.Need-after-list-requires
 after-list-requires c κs = search needs
+
+slice-aggregate-close : tie.Need-slice-aggregate-close
+slice-aggregate-close c = search needs
 
 close-requires : tie.Need-close-requires
 close-requires c κs = search needs
@@ -31,7 +31,7 @@ same-length c = search needs
 returns : tie.Need-returns
 returns c =
     strided-view-ending _ _ _ _ (c .before .before .before .before .before .before .before .before .before .before .before .before .before .before .before .before .put-text .ensures) (c .before .before .before .before .before .before .before .before .before .before .before .before .put-list .ensures) (c .before .before .before .before .before .before .before .before .put-byte .ensures)
-    (c .before .before .before .before .after-list .ensures) (c .before .before .close .ensures)
+    (c .before .before .before .before .before .after-list .ensures) (c .before .before .close .ensures)
 
 pub strided-view-spec : {M : Type 1} → statement M
 strided-view-spec =
@@ -41,8 +41,8 @@ strided-view-spec =
     put-text-requires
     put-list-requires
     put-byte-requires
-    slice-aggregate-close
     after-list-requires
+    slice-aggregate-close
     close-requires
     same-length
     returns)

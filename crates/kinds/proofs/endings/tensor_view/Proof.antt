@@ -19,11 +19,11 @@ put-list-requires c κs = search needs
 put-byte-requires : tie.Need-put-byte-requires
 put-byte-requires c κs = search needs
 
-slice-aggregate-close : tie.Need-slice-aggregate-close
-slice-aggregate-close c = search needs
-
 after-list-requires-2 : tie.Need-after-list-requires-2
 after-list-requires-2 c κs = search needs
+
+slice-aggregate-close : tie.Need-slice-aggregate-close
+slice-aggregate-close c = search needs
 
 close-requires : tie.Need-close-requires
 close-requires c κs = search needs
@@ -34,7 +34,7 @@ same-length c = search needs
 returns : tie.Need-returns
 returns c =
     tensor-view-ending _ _ _ _ _ (c .before .before .before .before .before .before .before .before .before .before .before .before .before .before .before .before .before .before .before .after-list .ensures) (c .before .before .before .before .before .before .before .before .before .before .before .before .before .before .before .before .put-text .ensures) (c .before .before .before .before .before .before .before .before .before .before .before .before .put-list .ensures)
-    (c .before .before .before .before .before .before .before .before .put-byte .ensures) (c .before .before .before .before .after-list2 .ensures) (c .before .before .close .ensures)
+    (c .before .before .before .before .before .before .before .before .put-byte .ensures) (c .before .before .before .before .before .after-list2 .ensures) (c .before .before .close .ensures)
 
 pub tensor-view-spec : {M : Type 1} → statement M
 tensor-view-spec =
@@ -45,8 +45,8 @@ tensor-view-spec =
     put-text-requires
     put-list-requires
     put-byte-requires
-    slice-aggregate-close
     after-list-requires-2
+    slice-aggregate-close
     close-requires
     same-length
     returns)

@@ -9,6 +9,7 @@ use super::calls::{Asked, Call};
 use super::damage::WOUNDS;
 use super::lent::Lengths;
 use crate::files::REACHABLE;
+use crate::kinds::kinds;
 use crate::tally::{Against, Tally};
 
 const LEAST_CALLS: u64 = 200_000;
@@ -31,16 +32,6 @@ pub fn number(asked: Asked) -> usize {
         Asked::Fetch(_) => 1,
         Asked::Drop => 2,
     }
-}
-
-macro_rules! kinds {
-    ($($name:ident = $what:literal,)*) => {
-        /// Kinds of calls that a run has to come upon.
-        #[derive(Clone, Copy)]
-        pub enum Kind { $($name),* }
-
-        const KINDS: &[&str] = &[$($what),*];
-    };
 }
 
 kinds! {

@@ -6,22 +6,13 @@ use std::collections::BTreeMap;
 use boundary::{Answer, ABSENT, FULL, SHEET};
 
 use super::traits::Traits;
+use crate::kinds::kinds;
 use crate::tally::{Against, Tally};
 
 const LEAST_CALLS: u64 = 200_000;
 
 /// The answers: 0 is no refusal.
 const ANSWERS: [u64; 4] = [0, FULL, SHEET, ABSENT];
-
-macro_rules! kinds {
-    ($($name:ident = $what:literal,)*) => {
-        /// Kinds of calls that a run has to come upon.
-        #[derive(Clone, Copy)]
-        pub enum Kind { $($name),* }
-
-        const KINDS: &[&str] = &[$($what),*];
-    };
-}
 
 kinds! {
     NoBytes = "an output of 0 bytes for a row that is there",
