@@ -136,32 +136,35 @@ module _ (s : List ℕ) (fit : length (wordsIn s) < 2 ^ 64) where
     tagged-function c (stridedView flags shape strides view dims padding) g h m = absurd (other tagStridedView _ h m refl)
     tagged-function c (function inputs results) g h m = record { inputs = inputs; results = results; same = refl }
 
-    -- The indices of a row are found, whatever its kind.
+    -- The indices by the kind of a row, and then those of a row are found, whatever its kind.
+    of-kind : (k : ℕ) (vs : List ℕ) {x : Indices} → x ≡ indices (kindOf tag) ws at → Lies ws at (k ∷ vs) → x ≡ indices (kindOf k) ws at
+    of-kind k vs n h = n ∙ ap (λ j. indices (kindOf j) ws at) (e ∙ lies-first k vs h)
+
     pub row-found : (x : Indices) → x ≡ indices (kindOf tag) ws at → (c : VersionClass) (y : TypeRow) → SoundType c y →
         Lies ws at (fieldWords y) → Found s (indicesOf y) (restOf y) x
     unfolding fieldWords indices kindOf
     row-found x n c (plain k) g h =
         found-from at [] (k ∷ []) (n ∙ ap (λ a. indices a ws at) (ap kindOf (e ∙ lies-first k [] h) ∙ plain-kind k g)) h
     row-found x n c (pointer flags element attribute) g h =
-        found-from (at + 2) (element ∷ []) (attribute ∷ []) (n ∙ ap (λ k. indices (kindOf k) ws at) (e ∙ lies-first _ _ h))
+        found-from (at + 2) (element ∷ []) (attribute ∷ []) (of-kind _ _ n h)
         (lies-back (tagPointer ∷ flags ∷ []) _ h)
     row-found x n c (tile element dims) g h =
-        found-from (at + 1) (element ∷ []) (countedWords dims) (n ∙ ap (λ k. indices (kindOf k) ws at) (e ∙ lies-first _ _ h))
+        found-from (at + 1) (element ∷ []) (countedWords dims) (of-kind _ _ n h)
         (lies-back (tagTile ∷ []) _ h)
     row-found x n c (tensorView flags element shape strides attribute) g h =
-        found-from (at + 2) (element ∷ []) _ (n ∙ ap (λ k. indices (kindOf k) ws at) (e ∙ lies-first _ _ h))
+        found-from (at + 2) (element ∷ []) _ (of-kind _ _ n h)
         (lies-back (tagTensorView ∷ flags ∷ []) _ h)
     row-found x n c (partitionView flags shape view dims padding) g h =
-        found-from (afterList ws (at + 2)) (view ∷ []) _ (n ∙ ap (λ k. indices (kindOf k) ws at) (e ∙ lies-first _ _ h))
+        found-from (afterList ws (at + 2)) (view ∷ []) _ (of-kind _ _ n h)
         (after-lies ws fit shape _ (lies-back (tagPartitionView ∷ flags ∷ []) _ h))
     row-found x n c (gatherScatterView flags shape view sparse padding) g h =
-        found-from (afterList ws (at + 2)) (view ∷ []) _ (n ∙ ap (λ k. indices (kindOf k) ws at) (e ∙ lies-first _ _ h))
+        found-from (afterList ws (at + 2)) (view ∷ []) _ (of-kind _ _ n h)
         (after-lies ws fit shape _ (lies-back (tagGatherScatterView ∷ flags ∷ []) _ h))
     row-found x n c (stridedView flags shape strides view dims padding) g h =
-        found-from (afterList ws (afterList ws (at + 2))) (view ∷ []) _ (n ∙ ap (λ k. indices (kindOf k) ws at) (e ∙ lies-first _ _ h))
+        found-from (afterList ws (afterList ws (at + 2))) (view ∷ []) _ (of-kind _ _ n h)
         (after-lies ws fit strides _ (after-lies ws fit shape _ (lies-back (tagStridedView ∷ flags ∷ []) _ h)))
     row-found x n c (function inputs results) g h =
-        found-counted (at + 1) inputs (countedWords results) (n ∙ ap (λ k. indices (kindOf k) ws at) (e ∙ lies-first _ _ h))
+        found-counted (at + 1) inputs (countedWords results) (of-kind _ _ n h)
         (lies-back (tagFunc ∷ []) _ h)
 
     -- The text of a row over its words is that of the row: what stands before its names, these, and what stands

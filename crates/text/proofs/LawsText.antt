@@ -7,6 +7,7 @@ use native.Mathlib.Omega.{arith}
 use mathlib.Core.List.{List, [], _++_}
 use lib.ListN.{length, take, length-append, length-take}
 use lib.Seq.{take-all, take-nil, take-append-le, take-append-add}
+use Rattle.exact.specs.Choice.{choose}
 use Rattle.exact.proofs.LawsChoice.{choose-yes, choose-no}
 use Rattle.encoding.specs.Out.{put}
 use Rattle.encoding.proofs.LawsOut.{put-nil, put-full, put-append, length-put}
@@ -65,48 +66,59 @@ length-filled Full out t = ap length (filled-full out t)
 pub put-size : {t : List ℕ} {p q : Pen} {out out' : List ℕ} → Put t p out out' q → length out' ≡ length out
 put-size {t} {p} {q} {out} x = ap length (x .output) ∙ length-filled p out t
 
--- Behind the second text the pen is as behind both ..
+-- Of a pen that tells by how many bytes of a room it is behind where it began: behind the second text it is as behind
+-- both, whichever way it tells.
+module _ (size room : ℕ) (pen : ℕ → Pen)
+    (step : (k : ℕ) (t : List ℕ) → behind size (pen k) t ≡ choose (decLe (length t) (room - k)) (pen (k + length t)) Full) where
+  has-room : (k : ℕ) (t : List ℕ) → length t ≤ room - k → behind size (pen k) t ≡ pen (k + length t)
+  has-room k t h = step k t ∙ choose-yes (decLe (length t) (room - k)) _ _ h
+
+  has-none : (k : ℕ) (t : List ℕ) → ¬ (length t ≤ room - k) → behind size (pen k) t ≡ Full
+  has-none k t h = step k t ∙ choose-no (decLe (length t) (room - k)) _ _ h
+
+  room-then : (a b : List ℕ) → behind size (behind size (pen 0) a) b ≡ behind size (pen 0) (a ++ b)
+  room-then a b =
+      let l = length-append a b in
+      elim (decLe (length a) (room - 0)) [
+        | yes h ↦
+            ap (λ p. behind size p b) (has-room 0 a h) ∙
+            elim (decLe (length b) (room - (0 + length a))) [
+              | yes k ↦
+                  let m : length (a ++ b) ≤ room - 0 = omega arith in
+                  let e : 0 + length a + length b ≡ 0 + length (a ++ b) = omega arith in
+                  has-room (0 + length a) b k ∙ ap pen e ∙ sym (has-room 0 (a ++ b) m)
+              | no k ↦
+                  let m : ¬ (length (a ++ b) ≤ room - 0) = omega arith in
+                  has-none (0 + length a) b k ∙ sym (has-none 0 (a ++ b) m)
+            ]
+        | no h ↦
+            let m : ¬ (length (a ++ b) ≤ room - 0) = omega arith in
+            ap (λ p. behind size p b) (has-none 0 a h) ∙ behind-full size b ∙ sym (has-none 0 (a ++ b) m)
+      ]
+
+-- A pen at a place tells so, and so does one that counts.
+placed-step : (size i k : ℕ) (t : List ℕ) →
+    behind size (At (i + k)) t ≡ choose (decLe (length t) (size - i - k)) (At (i + (k + length t))) Full
+unfolding behind
+placed-step size i k t =
+    let e : size - (i + k) ≡ size - i - k = omega arith in
+    let f : i + k + length t ≡ i + (k + length t) = omega arith in
+    ap₂ (λ r j. choose (decLe (length t) r) (At j) Full) e f
+
+counting-step : (size n k : ℕ) (t : List ℕ) →
+    behind size (Counting (n - k)) t ≡ choose (decLe (length t) (n - k)) (Counting (n - (k + length t))) Full
+unfolding behind
+counting-step size n k t =
+    let f : n - k - length t ≡ n - (k + length t) = omega arith in
+    ap (λ j. choose (decLe (length t) (n - k)) (Counting j) Full) f
+
 behind-then : (size : ℕ) (p : Pen) (a b : List ℕ) → behind size (behind size p a) b ≡ behind size p (a ++ b)
 behind-then size (At i) a b =
-    let l = length-append a b in
-    elim (decLe (length a) (size - i)) [
-      | yes h ↦
-          ap (λ p. behind size p b) (behind-room size a i h) ∙
-          elim (decLe (length b) (size - (i + length a))) [
-            | yes k ↦
-                let m : length (a ++ b) ≤ size - i = omega arith in
-                let e : i + length a + length b ≡ i + length (a ++ b) = omega arith in
-                behind-room size b (i + length a) k ∙ ap At e ∙ sym (behind-room size (a ++ b) i m)
-            | no k ↦
-                let m : size - i < length (a ++ b) = omega arith in
-                let j : size - (i + length a) < length b = omega arith in
-                behind-short size b (i + length a) j ∙ sym (behind-short size (a ++ b) i m)
-          ]
-      | no h ↦
-          let m : size - i < length (a ++ b) = omega arith in
-          let j : size - i < length a = omega arith in
-          ap (λ p. behind size p b) (behind-short size a i j) ∙ behind-full size b ∙ sym (behind-short size (a ++ b) i m)
-    ]
+    subst (λ j. behind size (behind size (At j) a) b ≡ behind size (At j) (a ++ b)) (add-zero i)
+    (room-then size (size - i) (λ k. At (i + k)) (placed-step size i) a b)
 behind-then size (Counting n) a b =
-    let l = length-append a b in
-    elim (decLe (length a) n) [
-      | yes h ↦
-          ap (λ p. behind size p b) (counted-room size a n h) ∙
-          elim (decLe (length b) (n - length a)) [
-            | yes k ↦
-                let m : length (a ++ b) ≤ n = omega arith in
-                let e : n - length a - length b ≡ n - length (a ++ b) = omega arith in
-                counted-room size b (n - length a) k ∙ ap Counting e ∙ sym (counted-room size (a ++ b) n m)
-            | no k ↦
-                let m : n < length (a ++ b) = omega arith in
-                let j : n - length a < length b = omega arith in
-                counted-short size b (n - length a) j ∙ sym (counted-short size (a ++ b) n m)
-          ]
-      | no h ↦
-          let m : n < length (a ++ b) = omega arith in
-          let j : n < length a = omega arith in
-          ap (λ p. behind size p b) (counted-short size a n j) ∙ behind-full size b ∙ sym (counted-short size (a ++ b) n m)
-    ]
+    subst (λ j. behind size (behind size (Counting j) a) b ≡ behind size (Counting j) (a ++ b)) (sub-zero n)
+    (room-then size n (λ k. Counting (n - k)) (counting-step size n) a b)
 behind-then size Full a b =
     ap (λ p. behind size p b) (behind-full size a) ∙ behind-full size b ∙ sym (behind-full size (a ++ b))
 
