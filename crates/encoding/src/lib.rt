@@ -161,12 +161,16 @@ fn put_bytes(out: &mut [u8], at: usize, data: &[u8])
     }
 }
 
-// Stores a varint, and answers the place behind it.
+// Stores a varint, and answers the place behind it. Most values are below 128 and take one byte: they take no loop.
 fn put_varint(out: &mut [u8], at: usize, value: u64) -> usize
     requires { ⌜ at + length (spelling value) ≤ length (now out) ⌝ }
     ensures place { λ r. ⌜ r ≡ at + length (spelling value) ⌝ }
     ensures output { λ _. ⌜ now (out .exit) ≡ put (now (out .entry)) at (spelling value) ⌝ }
 {
+    if value < 128 {
+        out[at] = value as u8;
+        return at + 1;
+    }
     let mut rest = value;
     let mut i = at;
     while 128 <= rest {
@@ -279,10 +283,14 @@ impl EncodingWriter {
         Written::Refused(Refusal::FULL)
     }
 
-    // Write an unsigned variable-length integer (LEB128-style, 7 bits per byte, high bit = continuation).
+    // Write an unsigned variable-length integer (LEB128-style, 7 bits per byte, high bit = continuation). One below 128
+    // is its byte: room for that is all that is asked.
     pub fn write_varint(self, out: &mut [u8], value: u64) -> Written
         ensures { λ r. ⌜ Writes self (spelling value) (now (out .entry)) (now (out .exit)) r ⌝ }
     {
+        if value < 128 {
+            return self.write_byte(out, value as u8);
+        }
         let at = self.at;
         if varint_has_room(out.len(), at, value) {
             let next = put_varint(out, at, value);

@@ -1,4 +1,4 @@
--- `put_varint` puts the shortest spelling, digit by digit. Assumes nothing.
+-- `put_varint` puts the shortest spelling: one digit at once, and more of them digit by digit. Assumes nothing.
 use mathlib.Core.Path.{_≡_, refl, sym, _∙_}
 use mathlib.Core.List.{List, []}
 use Prim.Native.Nat.{ℕ, _+_, _/_, _%_, _^_, _≤_, _<_}
@@ -28,17 +28,34 @@ done : (out : List ℕ) (i rest : ℕ) → rest < 128 → i + length (spelling r
     put out i (spelling rest) ≡ set out i rest
 done out i rest l r = put-next out i rest [] (i + 1) (spelling-last rest l) refl r ∙ put-nil (set out i rest) (i + 1)
 
+cast-out : tie.Need-cast-out Inv-loop μ-loop
+cast-out c = search needs
+
+slice-write-out : tie.Need-slice-write-out Inv-loop μ-loop
+slice-write-out c = omega (arith, spelling-size-last (c .before .args .value) (c .if1 .taken))
+
+add-result : tie.Need-add-result Inv-loop μ-loop
+add-result c = search needs
+
+same-length : tie.Need-same-length Inv-loop μ-loop
+same-length c = search needs
+
+returns : tie.Need-returns Inv-loop μ-loop
+returns c =
+    let t = c .if1 .taken in
+    (omega (arith, spelling-size-last (c .before .args .value) t), sym (done _ _ _ t (c .before .pre)))
+
 loop-holds : tie.Need-loop-holds Inv-loop μ-loop
 loop-holds c = search needs
 
 add-out : tie.Need-add-out Inv-loop μ-loop
 add-out c = search needs
 
-cast-out : tie.Need-cast-out Inv-loop μ-loop
-cast-out c = search needs
+cast-out-2 : tie.Need-cast-out-2 Inv-loop μ-loop
+cast-out-2 c = search needs
 
-slice-write-out : tie.Need-slice-write-out Inv-loop μ-loop
-slice-write-out c =
+slice-write-out-2 : tie.Need-slice-write-out-2 Inv-loop μ-loop
+slice-write-out-2 c =
     let l = c .before .loop in
     let h : l .rest < 2 ^ 64 = omega arith in
     omega (arith, spelling-some (l .rest) h)
@@ -60,23 +77,23 @@ loop-again c =
       simp length-set (l .inv .3),
     )
 
-cast-out-2 : tie.Need-cast-out-2 Inv-loop μ-loop
-cast-out-2 c = search needs
+cast-out-3 : tie.Need-cast-out-3 Inv-loop μ-loop
+cast-out-3 c = search needs
 
-slice-write-out-2 : tie.Need-slice-write-out-2 Inv-loop μ-loop
-slice-write-out-2 c =
+slice-write-out-3 : tie.Need-slice-write-out-3 Inv-loop μ-loop
+slice-write-out-3 c =
     let l = c .before .loop in
     let h : l .rest < 2 ^ 64 = omega arith in
     omega (arith, spelling-some (l .rest) h)
 
-add-result : tie.Need-add-result Inv-loop μ-loop
-add-result c = search needs
+add-result-2 : tie.Need-add-result-2 Inv-loop μ-loop
+add-result-2 c = search needs
 
-same-length : tie.Need-same-length Inv-loop μ-loop
-same-length c = search needs
+same-length-2 : tie.Need-same-length-2 Inv-loop μ-loop
+same-length-2 c = search needs
 
-returns : tie.Need-returns Inv-loop μ-loop
-returns c =
+returns-2 : tie.Need-returns-2 Inv-loop μ-loop
+returns-2 c =
     let l = c .before .loop in
     let r : l .i + length (spelling (l .rest)) ≤ length (l .out) = omega arith in
     let t = c .loop-test .left in
@@ -88,15 +105,20 @@ put-varint-spec =
     (tie.spec
     Inv-loop
     μ-loop
-    loop-holds
-    add-out
     cast-out
     slice-write-out
+    add-result
+    same-length
+    returns
+    loop-holds
+    add-out
+    cast-out-2
+    slice-write-out-2
     add-i
     loop-less
     loop-again
-    cast-out-2
-    slice-write-out-2
-    add-result
-    same-length
-    returns)
+    cast-out-3
+    slice-write-out-3
+    add-result-2
+    same-length-2
+    returns-2)
