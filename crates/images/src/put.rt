@@ -19,10 +19,14 @@ pub fn put_byte(out: &mut [u8], at: usize, b: u8) -> usize
     std::num::wrapping_add_usize(at, 1)
 }
 
-// Puts a varint, in its shortest spelling.
+// Puts a varint, in its shortest spelling. Most values are below 128 and take one byte: they take no loop, whether the
+// output is filled or measured.
 pub fn put_varint(out: &mut [u8], at: usize, value: u64) -> usize
     ensures { λ r. ⌜ Wrote (spelling value) at (now (out .entry)) (now (out .exit)) r ⌝ }
 {
+    if value < 128 {
+        return put_byte(out, at, value as u8);
+    }
     let mut rest = value;
     let mut next = at;
     while 128 <= rest {
