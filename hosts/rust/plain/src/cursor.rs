@@ -42,6 +42,8 @@ impl<'a> Cursor<'a> {
             let byte = self.byte()?;
             value |= u64::from(byte & 0x7F) << shift;
             if byte < 0x80 {
+                #[cfg(feature = "tally")]
+                crate::tally::count(shift / 7 + 1);
                 return Ok(value);
             }
         }

@@ -15,6 +15,8 @@ mod names;
 mod refusal;
 mod rows;
 mod sheet;
+#[cfg(feature = "tally")]
+pub mod tally;
 mod types;
 mod writer;
 
@@ -25,6 +27,7 @@ pub use names::type_text;
 pub use refusal::{Detail, Refusal, Stop};
 pub use writer::{image, write};
 
+use cursor::Cursor;
 use manner::{Lenient, Manner, Strict};
 use refusal::{AtStage, ABSENT, STAGE_CALL};
 use sheet::Table;
@@ -89,6 +92,17 @@ pub fn read(file: &[u8]) -> Result<Reading, Refusal> {
     let mut tables = Tables::default();
     tables.read(file, &mut Strict)?;
     Ok(tables.reading(file))
+}
+
+/// Puts so many varints, which stand one behind the other, to the numbers: the reader's loop over a list of indices,
+/// alone. It stays a function of its own, so that it comes to a varint as the reader does, wherever it is timed.
+#[inline(never)]
+pub fn varints(data: &[u8], count: u64, numbers: &mut Vec<u64>) -> Result<(), Stop> {
+    let mut cursor = Cursor::new(data);
+    for _ in 0..count {
+        numbers.push(cursor.varint()?);
+    }
+    Ok(())
 }
 
 /// The version and the sections of a file: header and walk are judged, and no payload.
