@@ -3,10 +3,11 @@
 use oracle::bytecode::decoder::decode_bytecode;
 
 use crate::inputs::{self, Input};
+use crate::stores::Stores;
 use crate::timing::{row, times, Row};
 
-const RUST: &str = "decode_bytecode";
-const PLAIN: &str = "plain Rust";
+pub const RUST: &str = "decode_bytecode";
+pub const PLAIN: &str = "plain Rust";
 
 /// What is said of an input, and what its times have to reach.
 struct Named {
@@ -19,33 +20,8 @@ struct Named {
     calls: usize,
 }
 
-/// Stores that were touched, as large as a file's tables.
-struct Stores {
-    sheet: Vec<u8>,
-    pool: Vec<u8>,
-}
-
-impl Stores {
-    fn of(input: &Input) -> Self {
-        Self { sheet: vec![1; input.sheet.len()], pool: vec![1; input.pool.len()] }
-    }
-
-    /// Reads, and tells how many words and bytes were filled.
-    fn read(&mut self, file: &[u8]) -> (usize, usize) {
-        let read = boundary::read(file, &mut self.sheet, &mut self.pool);
-        assert_eq!(read.refusal, 0, "a file of the bench is refused");
-        (read.first as usize, read.second as usize)
-    }
-
-    /// Measures first, as a host does that does not know the file.
-    fn measure_and_read(&mut self, file: &[u8]) -> (usize, usize) {
-        let need = boundary::measure(file);
-        assert!(need.first as usize * 8 == self.sheet.len() && need.second as usize == self.pool.len());
-        self.read(file)
-    }
-}
-
-fn plain_sizes(file: &[u8]) -> (usize, usize) {
+/// How many words and bytes the plain reader makes of a file.
+pub fn plain_sizes(file: &[u8]) -> (usize, usize) {
     let reading = plain::read(file).expect("a file of the bench is accepted");
     (reading.words.len(), reading.pool.len())
 }

@@ -1,5 +1,5 @@
 //! The files that are read, viewed, written and kept, and whose types are named: a small kernel, many rows in every
-//! table or of types alone, and large constants.
+//! table or of types alone, a function type with many inputs, and large constants.
 
 use oracle::bytecode::TypeTag;
 
@@ -47,17 +47,21 @@ impl Sheet {
     }
 }
 
-/// Types of five kinds in turn. A row says first how many words follow.
+/// A row of a type says first how many words follow.
+fn counted(mut row: Vec<u64>) -> Vec<u64> {
+    row.insert(0, row.len() as u64);
+    row
+}
+
+/// Types of five kinds in turn.
 fn type_row(i: u64) -> Vec<u64> {
-    let mut row = match i % 5 {
+    counted(match i % 5 {
         0 => vec![TypeTag::F32 as u64],
         1 => vec![TypeTag::Pointer as u64, 0, i - 1, 0],
         2 => vec![TypeTag::Tile as u64, i - 2, 2, 64, 128],
         3 => vec![TypeTag::TensorView as u64, 0, i - 3, 2, 4096, 4096, 2, 4096, 1, 0],
         _ => vec![TypeTag::Func as u64, 2, i - 2, i - 3, 0],
-    };
-    row.insert(0, row.len() as u64);
-    row
+    })
 }
 
 /// Bytes that differ from one to the next.
@@ -66,6 +70,10 @@ fn bytes(count: u64) -> Vec<u8> {
 }
 
 fn made(sizes: &Sizes) -> Input {
+    made_of(sizes, type_row)
+}
+
+fn made_of(sizes: &Sizes, type_row: impl Fn(u64) -> Vec<u64>) -> Input {
     let mut sheet = Sheet::default();
     sheet.table(sizes.strings, |_| [sizes.string]);
     sheet.table(sizes.types, type_row);
@@ -126,6 +134,19 @@ pub fn rows(count: u64) -> Input {
 /// So many types, and no rows of another table but a string.
 pub fn types(count: u64) -> Input {
     made(&Sizes { types: count, ..no_rows() })
+}
+
+/// A function type with so many inputs, which name 128 scalars in turn, those from `first` on, and no results.
+pub fn function(first: u64, inputs: u64) -> Input {
+    let scalars = first + 128;
+    let named = |input: u64| first + input % 128;
+    made_of(&Sizes { types: scalars + 1, ..no_rows() }, |i| {
+        counted(if i < scalars {
+            vec![TypeTag::F32 as u64]
+        } else {
+            [TypeTag::Func as u64, inputs].into_iter().chain((0..inputs).map(named)).chain([0]).collect()
+        })
+    })
 }
 
 /// 64 constants of 1 MiB.

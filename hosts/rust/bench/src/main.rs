@@ -3,10 +3,12 @@
 
 mod caches;
 mod files;
+mod indices;
 mod inputs;
 mod map;
 mod names;
 mod numbers;
+mod stores;
 mod timing;
 
 use timing::Row;
@@ -18,6 +20,8 @@ fn about() {
     println!("`called`: encoding.rs's EncodingWriter or decoder.rs's Reader behind a call that answers the same;");
     println!("`inlined`: the same, inlined into the loop that times it. Capacities are reserved.");
     println!("Arrays have 1,000 numbers; reading one ends with the numbers in a vector on both sides.");
+    println!("Indices: a million in one function type, whose file we measure and read; times are for each index;");
+    println!("`plain loop`: the plain reader's varint over the bytes of the indices alone, into a touched vector.");
     println!("Types are named by a call for each row, which judges the whole sheet, into one buffer of 256 bytes.");
     println!(
         "Caches are full. A slot has as many bytes as the file, in whole lines of 64 bytes, so that a put writes what memcpy does;"
@@ -53,6 +57,7 @@ fn main() {
     let rows = [numbers::varints(), numbers::arrays(), numbers::padding(), numbers::floats()].concat();
     table(&rows);
     table(&files::all());
+    table(&indices::all());
     table(&names::all());
     table(&caches::all());
 }
