@@ -120,7 +120,7 @@ endif
 
 bench: $(LIBRARY) | build/setup
 ifneq ($(HAS_RUST),)
-	CXX='$(CXX)' cargo run $(IN_RUST) --release --package bench
+	CXX='$(CXX)' cargo run $(IN_RUST) --release --package bench -- $(FROM_WRITER)
 else
 	@echo "no Rust source at $(RUST_SOURCE): there is nothing to measure against" >&2; exit 1
 endif

@@ -12,11 +12,12 @@ WRITER := $(GENUINE)/writer/realwriter
 WRITER_FILES := $(wildcard $(addprefix $(WRITER_SOURCE)/,*.sh *.rs */*.rs */*/*.rs) $(RUST_SOURCE)/src/*/*.rs)
 FIXED_SEED := 1
 
-# What the comparison is told.
-COMPARED := $(if $(HAS_WRITER),--genuine $(GENUINE)) $(SEED)
+# What the bench and the comparison are told.
+FROM_WRITER := $(if $(HAS_WRITER),--genuine $(GENUINE))
+COMPARED := $(FROM_WRITER) $(SEED)
 
 ifneq ($(HAS_RUST),)
-comparison emulated-comparison answers: genuine
+bench comparison emulated-comparison answers: genuine
 endif
 
 ifneq ($(HAS_WRITER),)
@@ -29,7 +30,7 @@ genuine:
 	@echo "no genuine writer at $(WRITER_SOURCE): with CI=true its files may not be left out" >&2; exit 1
 else
 genuine:
-	@echo "no genuine writer at $(WRITER_SOURCE): the comparison with its files was LEFT OUT"
+	@echo "no genuine writer at $(WRITER_SOURCE): what is done with its files was LEFT OUT"
 endif
 
 $(WRITER): $(WRITER_FILES)

@@ -1,5 +1,7 @@
 //! Our calls beside encoding.rs, decoder.rs, a plain reader and writer in safe Rust and a plain map in C++, in one run,
 //! as ratios of times. See `about` for what is timed.
+//!
+//! bench [--genuine FOLDER]
 
 mod caches;
 mod files;
@@ -8,9 +10,15 @@ mod inputs;
 mod map;
 mod names;
 mod numbers;
+mod session;
 mod stores;
 mod timing;
 
+use std::env;
+use std::error::Error;
+use std::path::PathBuf;
+
+use session::Load;
 use timing::Row;
 
 fn about() {
@@ -22,6 +30,7 @@ fn about() {
     println!("Arrays have 1,000 numbers; reading one ends with the numbers in a vector on both sides.");
     println!("Indices: a million in one function type, whose file we measure and read; times are for each index;");
     println!("`plain loop`: the plain reader's varint over the bytes of the indices alone, into a touched vector.");
+    println!("Session load: files of the genuine writer, measured and read one by one; times are for each file.");
     println!("Types are named by a call for each row, which judges the whole sheet, into one buffer of 256 bytes.");
     println!(
         "Caches are full. A slot has as many bytes as the file, in whole lines of 64 bytes, so that a put writes what memcpy does;"
@@ -52,12 +61,31 @@ fn table(rows: &[Row]) {
     }
 }
 
-fn main() {
+/// The folder below which the genuine writer put its files, if there is one.
+fn genuine() -> Result<Option<PathBuf>, String> {
+    let arguments: Vec<String> = env::args().skip(1).collect();
+    match &arguments[..] {
+        [] => Ok(None),
+        [option, folder] if option == "--genuine" => Ok(Some(folder.into())),
+        _ => Err("bench [--genuine FOLDER]".to_owned()),
+    }
+}
+
+fn main() -> Result<(), Box<dyn Error>> {
+    let load = genuine()?.map(|folder| Load::of(&folder.join("fixed"))).transpose()?;
     about();
     let rows = [numbers::varints(), numbers::arrays(), numbers::padding(), numbers::floats()].concat();
     table(&rows);
     table(&files::all());
     table(&indices::all());
+    match load {
+        Some(load) => {
+            table(&load.rows());
+            println!("\n{}", load.about());
+        }
+        None => println!("\nThe session load, which needs the files of the genuine writer, was LEFT OUT."),
+    }
     table(&names::all());
     table(&caches::all());
+    Ok(())
 }

@@ -22,6 +22,13 @@ impl Stores {
         Self { sheet: vec![1; input.sheet.len()], pool: vec![1; input.pool.len()] }
     }
 
+    /// As large as the largest tables of some files.
+    pub fn for_each(files: &[Vec<u8>]) -> Self {
+        let most = |of: fn(Answer) -> u64| files.iter().map(|file| of(boundary::measure(file))).max().unwrap_or(0);
+        let (words, bytes) = (most(|need| need.first), most(|need| need.second));
+        Self { sheet: vec![1; 8 * words as usize], pool: vec![1; bytes as usize] }
+    }
+
     pub fn read(&mut self, file: &[u8]) -> (usize, usize) {
         filled(boundary::read(file, &mut self.sheet, &mut self.pool))
     }
