@@ -3,9 +3,9 @@ use mathlib.Core.Path.{_≡_, refl, sym, ap, ap₂, subst, _∙_}
 use Prim.Native.Nat.{ℕ, suc, _+_, _-_, _*_, _≤_, _<_}
 use native.Mathlib.Nat.{add-zero}
 use native.Mathlib.Omega.{arith}
-use mathlib.Core.List.{List, [], _∷_, _++_, append-assoc}
-use lib.ListN.{length, take, drop, length-append, length-drop, take-append-drop}
-use lib.Seq.{take-at, drop-at, length-take-le}
+use mathlib.Core.List.{List, [], _∷_, _++_, append-assoc, append-nil}
+use lib.ListN.{length, take, drop, length-append, length-drop, take-append-drop, drop-of-length-le}
+use lib.Seq.{take-at, drop-at, drop-drop, length-take-le}
 use Rattle.exact.specs.Fixed.{bytesOf}
 use Rattle.exact.specs.Tiling.{join}
 use Rattle.exact.proofs.LawsFixed.{length-bytesOf}
@@ -13,6 +13,17 @@ use Rattle.encoding.specs.Out.{put, flat}
 use Rattle.encoding.proofs.LawsArray.{length-flat}
 use Rattle.encoding.proofs.LawsOut.{by-room, put-room, put-full, put-nil, put-append, length-put}
 use Rattle.sheet.specs.Store.{putWord, putWords, putRuns}
+
+-- Bytes that fill a part of a store are put into the store where the part begins.
+pub put-part : (s x y : List ℕ) (a k : ℕ) → a + k ≤ length s → length x ≡ k → y ≡ put (take k (drop a s)) 0 x →
+    take a s ++ (y ++ drop k (drop a s)) ≡ put s a x
+put-part s x y a k h e f =
+    let d : length (drop a s) ≡ length s - a = length-drop a s in
+    let n : length (take k (drop a s)) ≡ k = length-take-le k (drop a s) (omega arith) in
+    let m : drop (0 + length x) (take k (drop a s)) ≡ [] = drop-of-length-le (take k (drop a s)) {i = 0 + length x} (omega arith) in
+    let q : a + length x ≡ a + k = omega arith in
+    let r : y ≡ x = f ∙ put-room (take k (drop a s)) 0 x (omega arith) ∙ ap (λ l. x ++ l) m ∙ append-nil x in
+    rw r (sym (put-room s a x (omega arith) ∙ rw (q, drop-drop)))
 
 -- Words are put one list after the other.
 pub putWords-append : (a b s : List ℕ) (i : ℕ) → putWords s i (a ++ b) ≡ putWords (putWords s i a) (i + length a) b

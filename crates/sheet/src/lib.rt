@@ -9,12 +9,14 @@ ghost use lib.ListN.{length, getD};
 ghost use Rattle.encoding.specs.Out.{put};
 ghost use Rattle.sheet.specs.Store.{putWord, wordsIn};
 
-// Stores word i where the store has it, and else nothing.
+// Stores word i where the store has it, and else nothing. Of the word's own eight bytes the compiler sees that they have room.
 pub fn put_word(store: &mut [u8], i: usize, w: u64)
     ensures { λ _. ⌜ now (store .exit) ≡ putWord (now (store .entry)) i w ⌝ }
 {
     if i < store.len() / 8 {
-        encoding::patch_u64(store, i * 8, w);
+        let start = i * 8;
+        let end = start + 8;
+        encoding::patch_u64(&mut store[start..end], 0, w);
     }
 }
 
