@@ -251,22 +251,6 @@ pub attribute-inside : (s e : ℕ) (d : List ℕ) → s ≤ e → e ≤ length d
     Row (oneAt (take (e - s) (drop s d))) w t t' (spot.Stop x) → s + x .at ≤ length d
 attribute-inside s e d p q w t t' x r = omega (arith, part-length s e d p q, attribute-place _ w t t' x r)
 
--- The ids of a list, one by one.
-module _ (ids : List ℕ) (e i w : ℕ) where
-  pub ids-done : (s : List ℕ) → e ≤ i → putWords s w (drop i (nums e 8 ids)) ≡ s
-  unfolding putWords
-  ids-done s h = let n : length (nums e 8 ids) ≤ i = omega (arith, length-nums e 8 ids) in rw (drop-of-length-le (nums e 8 ids) n)
-
-  pub ids-more : (s t : List ℕ) (v j : ℕ) → e * 8 ≤ length ids → i < e → got v j ≡ numberOr 8 0 ids (i * 8) → t ≡ putWord s w v →
-      putWords s w (drop i (nums e 8 ids)) ≡ putWords t (w + 1) (drop (i + 1) (nums e 8 ids))
-  unfolding putWords
-  ids-more s t v j m h f g =
-      let n : i < length (nums e 8 ids) = omega (arith, length-nums e 8 ids) in
-      let k : 8 ≤ length ids - i * 8 = omega arith in
-      let a : getD (nums e 8 ids) i 0 ≡ v =
-      nums-at e 8 ids i h ∙ sym (got-value (f ∙ sym (number-read 8 0 ids (i * 8) _ _ (fixed-at 8 ids (i * 8) k)))) in
-      rw (drop-cons (nums e 8 ids) i 0 n, a, add-one i, g)
-
 -- The first of more numbers.
 nums-front : (e n w : ℕ) (s : List ℕ) → e ≤ n → take e (nums n w s) ≡ nums e w s
 unfolding nums

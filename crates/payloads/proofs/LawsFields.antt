@@ -291,7 +291,8 @@ module _ (k : Number) (l : List ℕ) (i : ℕ) where
   pub list-same : then (asWord varintAt) (λ n. numbers n n k) l i ≡ listed k l i
   list-same = list-count (varintAt l i) refl
 
-copied-at : (p : Parser (ℕ × List ℕ)) (l : List ℕ) (at : Spot) (s s' : List ℕ) (r : SpotRead) →
+-- A step from a place that is known.
+pub copied-at : (p : Parser (ℕ × List ℕ)) (l : List ℕ) (at : Spot) (s s' : List ℕ) (r : SpotRead) →
     Put (p l (at .pos)) (at .word) s s' r → Copied p l (spot.Got at) s s' r
 unfolding Copied
 copied-at p l at s s' r x = x
@@ -316,6 +317,12 @@ module _ (k : Number) (l s s₁ s' : List ℕ) (from : SpotRead) where
       subst (λ p. Copied (asWord p) l from s s₁ (spot.Stop x)) (field-there varintAt refl) y in
       copied-same _ _ l s s' from (spot.Stop x) (list-same k l)
       (copied-then (asWord varintAt) (λ n. numbers n n k) l s s₁ s' (spot.Stop x) from (spot.Stop x) z (copied-stop _ l s₁ s' refl))
+
+-- A count and then as many numbers are a list.
+pub copied-list : (k : Number) (l s s₁ s' : List ℕ) (from r₁ r : SpotRead) → Copied (asWord varintAt) l from s s₁ r₁ →
+    Copied (numbers (valueOf r₁) (valueOf r₁) k) l r₁ s₁ s' r → Copied (listed k) l from s s' r
+copied-list k l s s₁ s' from r₁ r x y =
+    copied-same _ _ l s s' from r (list-same k l) (copied-then (asWord varintAt) (λ n. numbers n n k) l s s₁ s' r from r₁ x y)
 
 -- As many words as bytes behind a step.
 pub grows-more : (l : List ℕ) (from : SpotRead) (at : Spot) (r : SpotRead) → Grows l from (spot.Got at) →

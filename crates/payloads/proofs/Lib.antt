@@ -3,12 +3,16 @@ pub mod LawsTables
 pub mod LawsFilling
 pub mod LawsRows
 pub mod LawsWords
+pub mod LawsPast
 pub mod LawsFields
+pub mod LawsArrays
+pub mod LawsIndices
 pub mod LawsTypes
 pub mod LawsTypeEntries
 pub mod LawsEntryRows
 pub mod LawsTypeSection
 pub mod LawsDebug
+pub mod LawsEnds
 pub mod LawsFilled
 pub mod LawsSizes
 pub mod LawsPass

@@ -43,7 +43,11 @@ unput p = mapped (λ v. (v, [])) p
 unfoldable pub listed : Number → Parser (ℕ × List ℕ)
 listed k = mapped (λ vs. (length vs, countedWords vs)) (counted varintAt (numberAt k))
 
--- n numbers, and m to go on with.
+-- n numbers by p, and m to go on with.
+unfoldable pub several : ℕ → ℕ → Parser ℕ → Parser (ℕ × List ℕ)
+several m n p = mapped (λ vs. (m, vs)) (times n p)
+
+-- The same, by how the numbers stand.
 unfoldable pub numbers : ℕ → ℕ → Number → Parser (ℕ × List ℕ)
 numbers m n k = mapped (λ vs. (m, vs)) (times n (numberAt k))
 

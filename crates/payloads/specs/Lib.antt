@@ -2,6 +2,7 @@ pub mod Fill
 pub mod Tables
 pub mod Rows
 pub mod Fields
+pub mod Indices
 pub mod TypeRows
 pub mod DebugRows
 pub mod Pass

@@ -1,11 +1,16 @@
 // The Debug section: parse_debug_section of decoder.rs. All starts and ids are found first, then the attributes are read
 // one by one, and then the lists.
 ghost use mathlib.Core.Path.{_≡_};
-ghost use Prim.Native.Nat.{_+_, _*_, _^_, _≤_, _<_};
-ghost use lib.ListN.{length, drop, replicate};
+ghost use Prim.Native.Nat.{ℕ, _+_, _-_, _*_, _^_, _≤_, _<_};
+ghost use mathlib.Core.Bool.{true};
+ghost use mathlib.Core.List.{List};
+ghost use lib.ListN.{length, take, drop, replicate};
+ghost use Rattle.exact.specs.Got.{got};
 ghost use Rattle.exact.specs.Sequence.{mapped};
+ghost use Rattle.exact.specs.Repeat.{times};
 ghost use Rattle.exact.specs.Fixed.{nums};
 ghost use Rattle.exact.specs.Tiling.{cuts};
+ghost use Rattle.reading.specs.Numbers.{varintAt};
 ghost use Rattle.format.specs.Sheet.{attributeWords};
 ghost use Rattle.format.specs.DecodeDebug.{attributeAt, debugAt};
 ghost use Rattle.sheet.specs.Store.{putWords};
@@ -18,6 +23,7 @@ use crate::fields::Number;
 use crate::fields::Spot;
 use crate::fields::SpotRead;
 use crate::fields::copy_numbers;
+use crate::fields::put_numbers;
 use crate::fields::put_value;
 use entries::starts::EntryRead;
 use entries::starts::ListRead;
@@ -28,7 +34,6 @@ use entries::starts::first_entry;
 use entries::starts::first_list;
 use entries::starts::next_entry;
 use entries::starts::next_list;
-use entries::starts::number_or;
 use entries::starts::parse_array;
 use enums::DebugTag;
 use enums::IdPosition;
@@ -98,6 +103,69 @@ fn parse_attribute(entry: &[u8], sheet: &mut [u8], word: usize) -> SpotRead
     }
 }
 
+// In an attribute of at most so many bytes, the tag and ten more, no number can be too long.
+const WINDOW: usize = 11;
+
+// How many of an entry's bytes end a number. At each byte of the window two tests are 0 or 1, whether the entry has it
+// and whether it ends a number, and half of their sum is 1 where both are: no branch waits for the bytes.
+fn ends_of(window: &[u8], size: u8) -> u8
+    requires { ⌜ length (now window) ≡ 11 ⌝ }
+    requires { ⌜ 0 < size ⌝ }
+    requires { ⌜ size ≤ 11 ⌝ }
+    ensures { λ r. ⌜ ((n : ℕ) → n < r → (vs : List ℕ) × (j : ℕ) × (times n varintAt (take size (now (window .entry))) 1 ≡ got vs j)) ⌝ }
+{
+    let mut ends: u8 = 0;
+    let mut left = size + 15;
+    let mut k: usize = 0;
+    while k < WINDOW {
+        ends += (left / 16 + (1 - window[k] / 128)) / 2;
+        left -= 1;
+        k += 1;
+    }
+    ends
+}
+
+// Whether a short attribute has all of its numbers: it is enough to count the bytes that end one. The tag is one of
+// them. No says nothing: the attribute is then read.
+fn is_whole(data: &[u8], start: usize, end: usize) -> bool
+    requires { ⌜ start < end ⌝ }
+    requires { ⌜ end ≤ length (now «data») ⌝ }
+    ensures { λ r. ⌜ (r ≡ true → (ws : List ℕ) × (mapped attributeWords attributeAt (take (end - start) (drop start (now («data» .entry)))) 0 ≡ got ws (end - start))) ⌝ }
+{
+    let size = end - start;
+    if WINDOW < size {
+        return false;
+    }
+    if data.len() - start < WINDOW {
+        return false;
+    }
+    let tag = data[start];
+    if 7 <= tag {
+        return false;
+    }
+    let stop = start + WINDOW;
+    DebugTag::field_count(tag as u64) < ends_of(&data[start..stop], size as u8) as u64
+}
+
+// An attribute that the sheet has no word for, as in the pass that measures, is only looked at; any other is read.
+fn any_attribute(data: &[u8], start: usize, end: usize, sheet: &mut [u8], word: usize) -> SpotRead
+    requires { ⌜ start < end ⌝ }
+    requires { ⌜ end ≤ length (now «data») ⌝ }
+    requires { ⌜ word + length (now «data») + 8 ≤ 2 ^ 62 ⌝ }
+    ensures { λ r. ⌜ Row (mapped attributeWords attributeAt (take (end - start) (drop start (now («data» .entry)))) 0) word (now (sheet .entry)) (now (sheet .exit)) r ⌝ }
+{
+    if sheet.len() / 8 <= word {
+        if is_whole(data, start, end) {
+            return SpotRead::Got(Spot {
+                pos: end - start,
+                word: word + 7,
+                value: 0,
+            });
+        }
+    }
+    parse_attribute(&data[start..end], sheet, word)
+}
+
 // Attribute by attribute: its bounds are judged, and after them its fields are read. None is empty.
 fn fill_attributes(payload: &[u8], attributes: Starts, sheet: &mut [u8], word: usize) -> SpotRead
     requires { ⌜ Lies 4 (now payload) attributes ⌝ }
@@ -119,7 +187,7 @@ fn fill_attributes(payload: &[u8], attributes: Starts, sheet: &mut [u8], word: u
             EntryRead::Got(behind) => {
                 let start = from.start.0;
                 let end = behind.start.0;
-                match parse_attribute(&data[start..end], sheet, next) {
+                match any_attribute(data, start, end, sheet, next) {
                     SpotRead::Stop(x) => {
                         return SpotRead::Stop(Refused {
                             no: x.no,
@@ -144,19 +212,12 @@ fn fill_attributes(payload: &[u8], attributes: Starts, sheet: &mut [u8], word: u
 
 // The ids of a list, a word for each. They stand in `ids`, eight bytes each.
 fn put_ids(ids: &[u8], sheet: &mut [u8], start: IdPosition, end: IdPosition, at: usize)
-    requires { ⌜ end .0 * 8 ≤ length (now ids) ⌝ }
+    requires { ⌜ (start .0 ≤ end .0) × (end .0 * 8 ≤ length (now ids)) ⌝ }
     requires { ⌜ at + end .0 < 2 ^ 63 ⌝ }
     ensures { λ _. ⌜ now (sheet .exit) ≡ putWords (now (sheet .entry)) at (drop (start .0) (nums (end .0) 8 (now (ids .entry)))) ⌝ }
 {
-    let mut word = at;
-    let mut i = start.0;
-    let last = end.0;
-    while i < last {
-        let id = number_or(ids, i * 8, Width::Eight, 0);
-        sheet::put_word(sheet, word, id.value);
-        word += 1;
-        i += 1;
-    }
+    let first = start.0 * 8;
+    put_numbers(&ids[first..], 8, end.0 - start.0, sheet, at);
 }
 
 // List by list: its bounds are judged, and its row is put: how many ids it has, and the ids.

@@ -1,13 +1,16 @@
 // The fields of type entries, copied into the words of a row one after the other. Each step takes what the step before
 // it answered, so that a refusal is handed through.
 ghost use mathlib.Core.Path.{_≡_};
-ghost use Prim.Native.Nat.{_+_, _^_, _≤_, _<_};
+ghost use Prim.Native.Nat.{_+_, _*_, _^_, _≤_, _<_};
 ghost use lib.ListN.{length};
+ghost use Rattle.exact.specs.Fixed.{little, fixed, nums};
 ghost use Rattle.reading.specs.Numbers.{varintAt};
 ghost use Rattle.reading.specs.Shown.{gotNum};
 ghost use Rattle.format.specs.DecodeTypes.{flagsAt, byteIf};
-ghost use Rattle.sheet.specs.Store.{putWord};
-ghost use Rattle.payloads.specs.Fields.{numberAt, valueOf, Room, Within, Grows, Put, Copied, asWord, listed, numbers, fieldIf};
+ghost use Rattle.sheet.specs.Store.{putWord, putWords};
+ghost use Rattle.payloads.specs.declared.fields.Number.the-variants as kinds;
+ghost use Rattle.payloads.specs.Fields.{numberAt, valueOf, Room, Within, Grows, Put, Copied, asWord, listed, several, numbers, fieldIf};
+use enums::Refusal;
 use enums::VersionClass;
 use reading::ByteRead;
 use reading::NumRead;
@@ -112,23 +115,17 @@ pub fn copy_field(
     }
 }
 
-// Copies `count` numbers.
-pub fn copy_numbers(
-    entry: &[u8],
-    number: Number,
-    sheet: &mut [u8],
-    count: u64,
-    at: Spot,
-) -> SpotRead
+// Copies `count` varints one by one.
+fn copy_each(entry: &[u8], sheet: &mut [u8], count: u64, at: Spot) -> SpotRead
     requires { ⌜ (at .pos ≤ length (now «entry»)) × (at .word + length (now «entry») ≤ 2 ^ 63) ⌝ }
-    ensures { λ r. ⌜ Put (numbers count count number (now («entry» .entry)) (at .pos)) (at .word) (now (sheet .entry)) (now (sheet .exit)) r ⌝ }
+    ensures { λ r. ⌜ Put (numbers count count kinds.Varint (now («entry» .entry)) (at .pos)) (at .word) (now (sheet .entry)) (now (sheet .exit)) r ⌝ }
     ensures { λ r. ⌜ Within (now («entry» .entry)) (at .pos) (at .word) 0 r ⌝ }
 {
     let mut reader = Reader { pos: at.pos };
     let mut word = at.word;
     let mut left = count;
     while 0 < left {
-        match read_number(entry, reader, number) {
+        match reader.read_varint(entry) {
             NumRead::Stop(x) => {
                 return SpotRead::Stop(x);
             }
@@ -145,6 +142,86 @@ pub fn copy_numbers(
         word,
         value: count,
     })
+}
+
+// The number that a run of at most eight bytes is, the lowest first. Of a known length it compiles to one load.
+fn number_of(run: &[u8]) -> u64
+    requires { ⌜ length (now run) ≤ 8 ⌝ }
+    ensures { λ r. ⌜ r ≡ little (now (run .entry)) ⌝ }
+{
+    let mut value: u64 = 0;
+    let mut i = run.len();
+    while 0 < i {
+        i -= 1;
+        value = 256 * value + run[i] as u64;
+    }
+    value
+}
+
+// Puts `count` numbers of `width` bytes that stand one behind the other. A sheet that has no word for the first is left at
+// once: a pass that measures has nothing to put.
+pub fn put_numbers(run: &[u8], width: usize, count: usize, sheet: &mut [u8], at: usize)
+    requires { ⌜ (width ≤ 8) × (count * width ≤ length (now run)) × (at + count < 2 ^ 64) ⌝ }
+    ensures { λ _. ⌜ now (sheet .exit) ≡ putWords (now (sheet .entry)) at (nums count width (now (run .entry))) ⌝ }
+{
+    if sheet.len() / 8 <= at {
+        return;
+    }
+    let mut word = at;
+    let mut i = 0;
+    while i < count {
+        let start = i * width;
+        let end = start + width;
+        sheet::put_word(sheet, word, number_of(&run[start..end]));
+        word += 1;
+        i += 1;
+    }
+}
+
+// Copies `count` numbers of `width` bytes. All have to be there, which is judged before the first is put.
+fn copy_fixed(entry: &[u8], width: usize, sheet: &mut [u8], count: u64, at: Spot) -> SpotRead
+    requires { ⌜ (0 < width) × (width ≤ 8) ⌝ }
+    requires { ⌜ (at .pos ≤ length (now «entry»)) × (at .word + length (now «entry») ≤ 2 ^ 63) ⌝ }
+    ensures { λ r. ⌜ Put (several count count (fixed width) (now («entry» .entry)) (at .pos)) (at .word) (now (sheet .entry)) (now (sheet .exit)) r ⌝ }
+    ensures { λ r. ⌜ Within (now («entry» .entry)) (at .pos) (at .word) 0 r ⌝ }
+{
+    let start = at.pos;
+    let room = (entry.len() - start) / width;
+    if (room as u64) < count {
+        let broken = start + room * width;
+        return SpotRead::Stop(Refused {
+            no: Refusal::SHORT,
+            at: broken,
+        });
+    }
+    let count = count as usize;
+    let end = start + count * width;
+    put_numbers(&entry[start..], width, count, sheet, at.word);
+    SpotRead::Got(Spot {
+        pos: end,
+        word: at.word + count,
+        value: count as u64,
+    })
+}
+
+// Copies `count` numbers.
+pub fn copy_numbers(
+    entry: &[u8],
+    number: Number,
+    sheet: &mut [u8],
+    count: u64,
+    at: Spot,
+) -> SpotRead
+    requires { ⌜ (at .pos ≤ length (now «entry»)) × (at .word + length (now «entry») ≤ 2 ^ 63) ⌝ }
+    ensures { λ r. ⌜ Put (numbers count count number (now («entry» .entry)) (at .pos)) (at .word) (now (sheet .entry)) (now (sheet .exit)) r ⌝ }
+    ensures { λ r. ⌜ Within (now («entry» .entry)) (at .pos) (at .word) 0 r ⌝ }
+{
+    match number {
+        Number::Varint => copy_each(entry, sheet, count, at),
+        Number::Byte => copy_fixed(entry, 1, sheet, count, at),
+        Number::I32 => copy_fixed(entry, 4, sheet, count, at),
+        Number::I64 => copy_fixed(entry, 8, sheet, count, at),
+    }
 }
 
 // Copies a counted list: its count, and its numbers.

@@ -3,6 +3,7 @@
 mod answers;
 mod debug;
 mod fields;
+mod indices;
 mod pass;
 mod rows;
 mod tables;

@@ -24,6 +24,7 @@ use crate::fields::copy_list;
 use crate::fields::copy_number;
 use crate::fields::put_value;
 use crate::fields::value_of;
+use crate::indices::copy_indices;
 use entries::starts::EntryRead;
 use entries::starts::Starts;
 use entries::starts::StartsRead;
@@ -159,8 +160,10 @@ fn function(entry: &[u8], sheet: &mut [u8], at: Spot) -> SpotRead
     ensures { λ r. ⌜ Within (now («entry» .entry)) (at .pos) (at .word) 7 r ⌝ }
 {
     let tag = SpotRead::Got(put_value(sheet, TypeTag::FUNC as u64, at));
-    let inputs = copy_list(entry, Number::Varint, sheet, tag);
-    copy_list(entry, Number::Varint, sheet, inputs)
+    let input_count = copy_number(entry, sheet, tag);
+    let inputs = copy_indices(entry, sheet, input_count);
+    let result_count = copy_number(entry, sheet, inputs);
+    copy_indices(entry, sheet, result_count)
 }
 
 // A partition view, by the version class.

@@ -18,7 +18,7 @@ use Rattle.reading.specs.Numbers.{digits, varintAt, Word, Begins}
 use Rattle.reading.proofs.LawsWord.{word-byte}
 
 -- What the bytes before give, and f times what the bytes behind them do.
-abbrev grow : ℕ → ℕ → Got ℕ → Got ℕ
+abbrev pub grow : ℕ → ℕ → Got ℕ → Got ℕ
 grow a f g = follow g (λ v j. got (a + f * v) j)
 
 module _ (l : List ℕ) (i : ℕ) where
@@ -27,18 +27,18 @@ module _ (l : List ℕ) (i : ℕ) where
   digits-end zero h = rw (byte-end l i h)
   digits-end (suc k) h = rw (byte-end l i h)
 
-  digits-last : (k : ℕ) → i < length l → getD l i 0 < 128 → digits (suc k) l i ≡ got (getD l i 0) (i + 1)
+  pub digits-last : (k : ℕ) → i < length l → getD l i 0 < 128 → digits (suc k) l i ≡ got (getD l i 0) (i + 1)
   unfolding digits bind follow pure
   digits-last k h b = rw (byte-at l i h, choose-yes (decLt (getD l i 0) 128) (pure (getD l i 0)) _ b)
 
-  digits-more : (k : ℕ) → i < length l → 128 ≤ getD l i 0 → digits (suc k) l i ≡ grow (getD l i 0 % 128) 128 (digits k l (i + 1))
+  pub digits-more : (k : ℕ) → i < length l → 128 ≤ getD l i 0 → digits (suc k) l i ≡ grow (getD l i 0 % 128) 128 (digits k l (i + 1))
   unfolding digits bind follow pure mapped
   digits-more k h b =
       let c : ℕ = getD l i 0 in
       rw (byte-at l i h)
       (ap (λ p. p l (i + 1)) (choose-no (decLt c 128) (pure c) (mapped (λ v. c % 128 + 128 * v) (digits k)) (omega arith)))
 
-  digits-tenth : i < length l → getD l i 0 < 128 → digits zero l i ≡ got (getD l i 0 % 2) (i + 1)
+  pub digits-tenth : i < length l → getD l i 0 < 128 → digits zero l i ≡ got (getD l i 0 % 2) (i + 1)
   unfolding digits bind follow pure
   digits-tenth h b = rw (byte-at l i h, choose-yes (decLt (getD l i 0) 128) (pure (getD l i 0 % 2)) (fail refusals.overlong) b)
 

@@ -9,7 +9,7 @@ use Rattle.format.specs.DecodeDebug.{attributeAt}
 use Rattle.format.specs.Sheet.{attributeWords}
 use Rattle.entries.specs.Starts.{gotEntry}
 use Rattle.entries.proofs.LawsStarts.{end-got}
-use Rattle.entries.proofs.LawsEntries.{restOf, rest-length, Before, before-next, part-length}
+use Rattle.entries.proofs.LawsEntries.{rest-length, Before, before-next}
 use Rattle.payloads.specs.declared.fields.SpotRead.{SpotRead}
 use Rattle.payloads.specs.TypeRows.{Row}
 use Rattle.payloads.proofs.LawsEntryRows.{wordsLeft, words-done, words-bad, words-stop, words-more, words-all, words-as}
@@ -79,85 +79,68 @@ returns c =
 enum-known-behind : tie.Need-enum-known-behind Inv-loop μ-loop
 enum-known-behind c = search needs
 
-sub-parse-attribute : tie.Need-sub-parse-attribute Inv-loop μ-loop
-sub-parse-attribute c =
-    let e = told gotEntry (c .before .behind .given .1) (c .before .before .before .next-entry .ensures) in
-    omega (arith, end-got _ _ _ _ _ _ _ _ e .1)
-
-part-parse-attribute-start : tie.Need-part-parse-attribute-start Inv-loop μ-loop
-part-parse-attribute-start c =
-    let e = told gotEntry (c .before .behind .given .1) (c .before .before .before .next-entry .ensures) in
-    omega (arith, end-got _ _ _ _ _ _ _ _ e .1)
-
-part-parse-attribute-end : tie.Need-part-parse-attribute-end Inv-loop μ-loop
-part-parse-attribute-end c =
-    let e = told gotEntry (c .before .behind .given .1) (c .before .before .before .next-entry .ensures) in
-    end-got _ _ _ _ _ _ _ _ e .2
-
-parse-attribute-requires : tie.Need-parse-attribute-requires Inv-loop μ-loop
-parse-attribute-requires c κs =
-    let s = c .before .before .before .before .before .before .before .before .before .before .before .before .before in
-    let l = c .before .before .before .before .before .before .before .loop .inv in
-    let e = told gotEntry (c .before .before .before .behind .given .1) (c .before .before .before .before .before .next-entry .ensures) in
+any-attribute-requires : tie.Need-any-attribute-requires Inv-loop μ-loop
+any-attribute-requires c κs =
+    let s = c .before .before .before .before .before .before .before .before .before .before .before .before in
+    let l = c .before .before .before .before .before .before .loop .inv in
+    let e = told gotEntry (c .before .before .behind .given .1) (c .before .before .before .before .next-entry .ensures) in
     let (f, g, h) = end-got _ _ _ _ _ _ _ _ e in
     let d = rest-length (s .args .payload .now) (s .args .attributes) in
-    let n = part-length (c .before .before .before .before .before .before .before .loop .from .start .0) (c .before .before .before .behind .given .0 .0 .start .0)
-    (restOf (s .args .payload .now) (s .args .attributes)) (omega arith) h in
-    omega (arith, l .3, g, h, d, n, s .pre .1)
+    (omega (arith, g), (h, omega (arith, l .3, g, h, d, s .pre .1)))
 
 enum-known-x-2 : tie.Need-enum-known-x-2 Inv-loop μ-loop
 enum-known-x-2 c = search needs
 
-add-t35 : tie.Need-add-t35 Inv-loop μ-loop
-add-t35 c =
-    let s = c .before .before .before .before .before .before .before .before .before .before .before .before .before .before .before .before .before .before .before in
-    let e = told gotEntry (c .before .before .before .before .before .before .before .before .before .behind .given .1) (c .before .before .before .before .before .before .before .before .before .before .before .next-entry .ensures) in
+add-t31 : tie.Need-add-t31 Inv-loop μ-loop
+add-t31 c =
+    let s = c .before .before .before .before .before .before .before .before .before .before .before .before .before .before .before .before .before .before in
+    let e = told gotEntry (c .before .before .before .before .before .before .before .before .behind .given .1) (c .before .before .before .before .before .before .before .before .before .before .next-entry .ensures) in
     let (f, g, h) = end-got _ _ _ _ _ _ _ _ e in
     let d = rest-length (s .args .payload .now) (s .args .attributes) in
     omega (arith, g, h, d, s .pre .0 .inside)
 
-add-t36 : tie.Need-add-t36 Inv-loop μ-loop
-add-t36 c =
-    let s = c .before .before .before .before .before .before .before .before .before .before .before .before .before .before .before .before .before .before .before .before in
-    let e = told gotEntry (c .before .before .before .before .before .before .before .before .before .before .behind .given .1) (c .before .before .before .before .before .before .before .before .before .before .before .before .next-entry .ensures) in
+add-t32 : tie.Need-add-t32 Inv-loop μ-loop
+add-t32 c =
+    let s = c .before .before .before .before .before .before .before .before .before .before .before .before .before .before .before .before .before .before .before in
+    let e = told gotEntry (c .before .before .before .before .before .before .before .before .before .behind .given .1) (c .before .before .before .before .before .before .before .before .before .before .before .next-entry .ensures) in
     let (f, g, h) = end-got _ _ _ _ _ _ _ _ e in
     let d = rest-length (s .args .payload .now) (s .args .attributes) in
-    omega (arith, attribute-inside _ _ _ (omega arith) h _ _ _ _ (row-told _ _ _ _ (c .before .before .x2 .given .1) (c .before .before .before .before .before .before .parse-attribute .ensures)), d, s .pre .0 .inside)
+    omega (arith, attribute-inside _ _ _ (omega arith) h _ _ _ _ (row-told _ _ _ _ (c .before .before .x2 .given .1) (c .before .before .before .before .before .before .any-attribute .ensures)), d, s .pre .0 .inside)
 
 same-length-2 : tie.Need-same-length-2 Inv-loop μ-loop
-same-length-2 c = omega (arith, c .before .before .before .before .before .sheet .given, c .before .before .before .before .before .before .before .before .before .before .before .before .before .before .loop .inv .2)
+same-length-2 c = omega (arith, c .before .before .before .before .before .sheet .given, c .before .before .before .before .before .before .before .before .before .before .before .before .before .loop .inv .2)
 
 returns-2 : tie.Need-returns-2 Inv-loop μ-loop
 returns-2 c =
-    let s = c .before .before .before .before .before .before .before .before .before .before .before .before .before .before .before .before .before .before .before .before in
-    let l = c .before .before .before .before .before .before .before .before .before .before .before .before .before .before .loop in
-    let m : l .left ≡ suc (l .left - 1) = omega (arith, c .before .before .before .before .before .before .before .before .before .before .before .before .before .loop-test .taken) in
-    let e = told gotEntry (c .before .before .before .before .before .before .before .before .before .before .behind .given .1) (c .before .before .before .before .before .before .before .before .before .before .before .before .next-entry .ensures) in
-    let (b, a) = words-all attributeWords 1 attributeAt _ _ (s .pre .0) _ _ (c .before .before .before .before .before .before .before .before .before .before .before .before .before .before .before .first-entry .ensures) in
+    let s = c .before .before .before .before .before .before .before .before .before .before .before .before .before .before .before .before .before .before .before in
+    let l = c .before .before .before .before .before .before .before .before .before .before .before .before .before .loop in
+    let m : l .left ≡ suc (l .left - 1) = omega (arith, c .before .before .before .before .before .before .before .before .before .before .before .before .loop-test .taken) in
+    let e = told gotEntry (c .before .before .before .before .before .before .before .before .before .behind .given .1) (c .before .before .before .before .before .before .before .before .before .before .before .next-entry .ensures) in
+    let (b, a) = words-all attributeWords 1 attributeAt _ _ (s .pre .0) _ _ (c .before .before .before .before .before .before .before .before .before .before .before .before .before .before .first-entry .ensures) in
     words-as _ _ _ _ _ _ a
     (l .inv .0 _ _ (words-stop attributeWords _ _ _ _ _ _ _ (omega arith) _ _ _ _ m (l .inv .1) _ _ e _ _ _ _
-    (row-told _ _ _ _ (c .before .before .x2 .given .1) (c .before .before .before .before .before .before .parse-attribute .ensures)) _))
+    (row-told _ _ _ _ (c .before .before .x2 .given .1) (c .before .before .before .before .before .before .any-attribute .ensures)) _))
 
 enum-known-row : tie.Need-enum-known-row Inv-loop μ-loop
 enum-known-row c = search needs
 
 sub-left : tie.Need-sub-left Inv-loop μ-loop
-sub-left c = omega (arith, c .before .before .before .before .before .before .before .before .before .before .before .before .loop-test .taken)
+sub-left c = omega (arith, c .before .before .before .before .before .before .before .before .before .before .before .loop-test .taken)
 
 loop-less : tie.Need-loop-less Inv-loop μ-loop
-loop-less c = omega (arith, c .before .before .before .before .before .before .before .before .before .before .before .before .loop-test .taken)
+loop-less c = omega (arith, c .before .before .before .before .before .before .before .before .before .before .before .loop-test .taken)
 
 loop-again : tie.Need-loop-again Inv-loop μ-loop
 loop-again c =
-    let l = c .before .before .before .before .before .before .before .before .before .before .before .before .before .loop in
-    let m : l .left ≡ suc (l .left - 1) = omega (arith, c .before .before .before .before .before .before .before .before .before .before .before .before .loop-test .taken) in
-    let e = told gotEntry (c .before .before .before .before .before .before .before .before .before .behind .given .1) (c .before .before .before .before .before .before .before .before .before .before .before .next-entry .ensures) in
+    let l = c .before .before .before .before .before .before .before .before .before .before .before .before .loop in
+    let m : l .left ≡ suc (l .left - 1) = omega (arith, c .before .before .before .before .before .before .before .before .before .before .before .loop-test .taken) in
+    let e = told gotEntry (c .before .before .before .before .before .before .before .before .behind .given .1) (c .before .before .before .before .before .before .before .before .before .before .next-entry .ensures) in
     let (f, g, h) = end-got _ _ _ _ _ _ _ _ e in
-    let o = row-told _ _ _ _ (c .before .row .given .1) (c .before .before .before .before .before .parse-attribute .ensures) in (
+    let o = row-told _ _ _ _ (c .before .row .given .1) (c .before .before .before .before .before .any-attribute .ensures) in (
       λ t r x. l .inv .0 t r (words-more attributeWords _ _ _ _ _ _ _ (omega arith) _ _ _ _ m (l .inv .1) _ _ e _ _ _ _ o t r x),
       before-next _ _ _ (omega arith) _ _ _ _ _ _ m (l .inv .1) f .0,
       c .before .before .before .before .sheet .given ∙ l .inv .2,
-      omega (arith, l .inv .3, g, seven _ _ _ _ _ (row-told _ _ _ _ (c .before .row .given .1) (c .before .before .before .before .before .parse-attribute .ensures))),
+      omega (arith, l .inv .3, g, seven _ _ _ _ _ (row-told _ _ _ _ (c .before .row .given .1) (c .before .before .before .before .before .any-attribute .ensures))),
     )
 
 same-length-3 : tie.Need-same-length-3 Inv-loop μ-loop
@@ -188,13 +171,10 @@ fill-attributes-spec =
     same-length
     returns
     enum-known-behind
-    sub-parse-attribute
-    part-parse-attribute-start
-    part-parse-attribute-end
-    parse-attribute-requires
+    any-attribute-requires
     enum-known-x-2
-    add-t35
-    add-t36
+    add-t31
+    add-t32
     same-length-2
     returns-2
     enum-known-row

@@ -106,7 +106,7 @@ put-ids-requires c κs =
     let n = length-nums (s .args .ids .count) 8 (drop (s .args .ids .first) (s .args .payload .now)) in
     let k = c .before .before .before .before .before .before .before .before .before .before .behind .given .0 .0 .start .0 in
     let i : k ≤ length (nums (s .args .ids .count) 8 (drop (s .args .ids .first) (s .args .payload .now))) = omega (arith, h, n) in
-    (ids-inside _ _ (s .pre .1 .0) _ i, omega (arith, l .3, g, h, c .before .before .before .before .before .before .before .before .before .before .before .before .before .loop-test .taken, starts-few 4 _ _ (omega arith) (s .pre .0), starts-few 8 _ _ (omega arith) (s .pre .1 .0), s .pre .1 .1))
+    ((omega (arith, g), ids-inside _ _ (s .pre .1 .0) _ i), omega (arith, l .3, g, h, c .before .before .before .before .before .before .before .before .before .before .before .before .before .loop-test .taken, starts-few 4 _ _ (omega arith) (s .pre .0), starts-few 8 _ _ (omega arith) (s .pre .1 .0), s .pre .1 .1))
 
 add-word : tie.Need-add-word Inv-loop μ-loop
 add-word c =

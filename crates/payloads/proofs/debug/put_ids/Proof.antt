@@ -1,74 +1,51 @@
--- `put_ids` puts the ids one by one: what the rest puts, all of them put. Assumes nothing.
-use mathlib.Core.Path.{_≡_, refl, sym, ap, _∙_}
-use Prim.Native.Nat.{_+_, _-_}
-use native.Mathlib.Omega.{arith}
-use lib.ListN.{length, drop}
+-- `put_ids` puts the numbers behind those that stand before the list. Assumes nothing.
+use mathlib.Core.Path.{sym, ap, _∙_}
+use Prim.Native.Nat.{_-_, _*_}
 use Rattle.exact.specs.Fixed.{nums}
 use Rattle.sheet.specs.Store.{putWords}
-use Rattle.payloads.proofs.LawsWords.{length-putWord}
-use Rattle.payloads.proofs.LawsDebug.{ids-done, ids-more}
+use Rattle.payloads.proofs.LawsArrays.{rest-all, nums-from}
 use borrow.Author.Needs.{needs}
 use Rattle.payloads.proofs.debug.put_ids.Statement.{statement}
 use Rattle.payloads.proofs.debug.put_ids.Tie as tie
 
-abbrev Inv-loop : tie.InvT-loop
-Inv-loop ids sheet₀ at word₀ i₀ last sheet word i =
-    (putWords sheet word (drop i (nums last 8 ids)) ≡ putWords sheet₀ word₀ (drop i₀ (nums last 8 ids))) × (length sheet ≡ length sheet₀) ×
-    (word + i₀ ≡ word₀ + i)
+mul-first : tie.Need-mul-first
+mul-first c = search needs
 
-abbrev μ-loop : tie.MeasureT-loop
-μ-loop ids sheet₀ at word₀ i₀ last sheet word i =
-    last - i
+sub-put-numbers : tie.Need-sub-put-numbers
+sub-put-numbers c = search needs
 
-loop-holds : tie.Need-loop-holds Inv-loop μ-loop
-loop-holds c = (refl, refl, refl)
+part-put-numbers-start : tie.Need-part-put-numbers-start
+part-put-numbers-start c = search needs
 
-mul-number-or : tie.Need-mul-number-or Inv-loop μ-loop
-mul-number-or c = omega (arith, c .loop-test .taken, c .before .before .before .before .pre .0)
+part-put-numbers-end : tie.Need-part-put-numbers-end
+part-put-numbers-end c = search needs
 
-number-or-requires : tie.Need-number-or-requires Inv-loop μ-loop
-number-or-requires c κs = search needs
+sub-put-numbers-2 : tie.Need-sub-put-numbers-2
+sub-put-numbers-2 c = search needs
 
-put-word-requires : tie.Need-put-word-requires Inv-loop μ-loop
-put-word-requires c κs = search needs
+put-numbers-requires : tie.Need-put-numbers-requires
+put-numbers-requires c κs = search needs
 
-add-word : tie.Need-add-word Inv-loop μ-loop
-add-word c = omega (arith, c .before .before .before .before .before .before .loop .inv .2, c .before .before .before .before .before .loop-test .taken, c .before .before .before .before .before .before .before .before .before .pre .1)
+same-length : tie.Need-same-length
+same-length c = search needs
 
-add-i : tie.Need-add-i Inv-loop μ-loop
-add-i c = omega (arith, c .before .before .before .before .before .loop-test .taken)
-
-loop-less : tie.Need-loop-less Inv-loop μ-loop
-loop-less c = omega (arith, c .before .before .before .before .before .loop-test .taken)
-
-loop-again : tie.Need-loop-again Inv-loop μ-loop
-loop-again c =
-    let l = c .before .before .before .before .before .before .loop .inv in
-    let a = c .before .before .put-word .ensures in (
-      sym (ids-more _ _ _ _ _ _ _ _ (c .before .before .before .before .before .before .before .before .before .pre .0) (c .before .before .before .before .before .loop-test .taken) (c .before .before .before .before .number-or .ensures) a) ∙ l .0,
-      ap length a ∙ length-putWord _ _ _ ∙ l .1,
-      omega (arith, l .2),
-    )
-
-same-length : tie.Need-same-length Inv-loop μ-loop
-same-length c = omega (arith, c .before .loop .inv .1)
-
-returns : tie.Need-returns Inv-loop μ-loop
-returns c = sym (ids-done _ _ _ _ _ (c .loop-test .left)) ∙ c .before .loop .inv .0
+returns : tie.Need-returns
+returns c =
+    let g = c .before .before .before .before .before .before .before .before .before .before .args in
+    let a = g .start .0 in
+    let e = g .end .0 in
+    c .before .before .put-numbers .ensures ∙ ap (λ l. putWords (g .sheet .now) (g .at) (nums (e - a) 8 l)) (rest-all (g .ids .now) (a * 8)) ∙
+    ap (λ ws. putWords (g .sheet .now) (g .at) ws) (sym (nums-from a e 8 (g .ids .now) (c .before .before .before .before .before .before .before .before .before .before .pre .0 .0)))
 
 pub put-ids-spec : {M : Type 1} → statement M
 put-ids-spec =
     tie.close
     (tie.spec
-    Inv-loop
-    μ-loop
-    loop-holds
-    mul-number-or
-    number-or-requires
-    put-word-requires
-    add-word
-    add-i
-    loop-less
-    loop-again
+    mul-first
+    sub-put-numbers
+    part-put-numbers-start
+    part-put-numbers-end
+    sub-put-numbers-2
+    put-numbers-requires
     same-length
     returns)

@@ -1,100 +1,91 @@
--- `copy_numbers` copies as many numbers as are asked for: whatever copying the rest leaves, copying them all leaves it.
--- Assumes nothing.
-use mathlib.Core.Path.{_≡_, refl, sym, ap, _∙_}
-use Prim.Native.Nat.{ℕ, _+_, _≤_}
+-- `copy_numbers` copies numbers by how they stand. Assumes nothing.
+use mathlib.Core.Path.{refl}
 use native.Mathlib.Omega.{arith}
-use mathlib.Core.List.{List}
-use lib.ListN.{length}
-use Rattle.payloads.proofs.LawsWords.{length-putWord}
-use Rattle.reading.proofs.LawsShown.{told-num}
-use Rattle.payloads.specs.declared.fields.SpotRead.{SpotRead}
-use Rattle.payloads.specs.Fields.{numbers, Put}
-use Rattle.payloads.proofs.LawsFields.{number-in, numbers-done, numbers-stop, numbers-more, within-got, within-refused}
+use Rattle.exact.specs.Fixed.{fixed}
+use Rattle.reading.proofs.LawsWord.{fixed-one}
+use Rattle.payloads.specs.declared.fields.Number.the-variants.{Varint, Byte, I32, I64}
+use Rattle.payloads.specs.Fields.{numberAt}
+use Rattle.payloads.proofs.LawsArrays.{numbers-told, numbers-as}
 use borrow.Author.Needs.{needs}
 use Rattle.payloads.proofs.fields.copy_numbers.Statement.{statement}
 use Rattle.payloads.proofs.fields.copy_numbers.Tie as tie
 
-abbrev Inv-loop : tie.InvT-loop
-Inv-loop entry number sheet₀ count reader₀ word₀ left₀ sheet reader word left =
-    ((sheet' : List ℕ) (r : SpotRead) → Put (numbers count left number entry (reader .pos)) word sheet sheet' r →
-    Put (numbers count count number entry (reader₀ .pos)) word₀ sheet₀ sheet' r) ×
-    (length sheet ≡ length sheet₀) × (reader .pos ≤ length entry) × (word + reader₀ .pos ≤ word₀ + reader .pos)
+enum-told : tie.Need-enum-told
+enum-told c = search needs
 
-abbrev μ-loop : tie.MeasureT-loop
-μ-loop entry number sheet₀ count reader₀ word₀ left₀ sheet reader word left = left
+copy-each-requires : tie.Need-copy-each-requires
+copy-each-requires c κs = search needs
 
-loop-holds : tie.Need-loop-holds Inv-loop μ-loop
-loop-holds c = (λ s r x. x, refl, c .before .before .pre .0, omega arith)
+enum-told-2 : tie.Need-enum-told-2
+enum-told-2 c = search needs
 
-read-number-requires : tie.Need-read-number-requires Inv-loop μ-loop
-read-number-requires c κs = search needs
+copy-fixed-requires : tie.Need-copy-fixed-requires
+copy-fixed-requires c κs = search needs
 
-enum-known-x : tie.Need-enum-known-x Inv-loop μ-loop
-enum-known-x c = search needs
+enum-told-3 : tie.Need-enum-told-3
+enum-told-3 c = search needs
 
-same-length : tie.Need-same-length Inv-loop μ-loop
+copy-fixed-requires-2 : tie.Need-copy-fixed-requires-2
+copy-fixed-requires-2 c κs = search needs
+
+enum-told-4 : tie.Need-enum-told-4
+enum-told-4 c = search needs
+
+copy-fixed-requires-3 : tie.Need-copy-fixed-requires-3
+copy-fixed-requires-3 c κs = search needs
+
+same-length : tie.Need-same-length
 same-length c = search needs
 
-returns : tie.Need-returns Inv-loop μ-loop
+returns : tie.Need-returns
 returns c =
-    let l = c .before .before .before .before .before .loop .inv in
-    let t = told-num (c .before .x .given .1) (c .before .before .before .read-number .ensures) in
-    (l .0 _ _ (numbers-stop _ _ _ _ _ _ _ _ _ (c .before .before .before .before .loop-test .taken) t), within-refused _ _ _ _ _ _ _ (l .2) t)
+    let p = c .before .before .copy-each .ensures in
+    (numbers-told _ Varint _ _ _ _ _ _ _ (c .before .before .before .before .enum-told .given .1) (p .0), p .1)
 
-enum-known-v : tie.Need-enum-known-v Inv-loop μ-loop
-enum-known-v c = search needs
-
-put-word-requires : tie.Need-put-word-requires Inv-loop μ-loop
-put-word-requires c κs = search needs
-
-add-word : tie.Need-add-word Inv-loop μ-loop
-add-word c =
-    let l = c .before .before .before .before .before .before .before .before .before .loop .inv in
-    let m = c .before .before .before .before .before .before .before .before .before .before .before .before .pre in
-    omega (arith, l .2, l .3, m .1)
-
-sub-left : tie.Need-sub-left Inv-loop μ-loop
-sub-left c = search needs
-
-loop-less : tie.Need-loop-less Inv-loop μ-loop
-loop-less c = search needs
-
-loop-again : tie.Need-loop-again Inv-loop μ-loop
-loop-again c =
-    let l = c .before .before .before .before .before .before .before .before .before .loop .inv in
-    let t = told-num (c .before .before .before .before .before .v .given .1) (c .before .before .before .before .before .before .before .read-number .ensures) in
-    let p = c .before .before .put-word .ensures in
-    let n = number-in _ _ _ _ _ (sym t) in (
-      λ s r x. l .0 s r (numbers-more _ _ _ _ _ _ _ _ _ _ _ _ (c .before .before .before .before .before .before .before .before .loop-test .taken) t p x),
-      ap length p ∙ length-putWord _ _ _ ∙ l .1,
-      n .1,
-      omega (arith, l .3, n .0),
-    )
-
-same-length-2 : tie.Need-same-length-2 Inv-loop μ-loop
+same-length-2 : tie.Need-same-length-2
 same-length-2 c = search needs
 
-returns-2 : tie.Need-returns-2 Inv-loop μ-loop
+returns-2 : tie.Need-returns-2
+unfolding numberAt
 returns-2 c =
-    let l = c .before .loop .inv in
-    (l .0 _ _ (numbers-done _ _ _ _ _ _ _ _ (c .loop-test .left) refl), within-got _ _ _ _ _ (l .2) (omega (arith, l .3)))
+    let p = c .before .before .copy-fixed .ensures in
+    (numbers-as _ Byte 1 _ _ _ _ _ _ _ (c .before .before .before .before .enum-told2 .given .1) (fixed-one _) (p .0), p .1)
+
+same-length-3 : tie.Need-same-length-3
+same-length-3 c = search needs
+
+returns-3 : tie.Need-returns-3
+unfolding numberAt
+returns-3 c =
+    let p = c .before .before .copy-fixed2 .ensures in
+    (numbers-as _ I32 4 _ _ _ _ _ _ _ (c .before .before .before .before .enum-told3 .given .1) (λ j. refl) (p .0), p .1)
+
+same-length-4 : tie.Need-same-length-4
+same-length-4 c = search needs
+
+returns-4 : tie.Need-returns-4
+unfolding numberAt
+returns-4 c =
+    let p = c .before .before .copy-fixed3 .ensures in
+    (numbers-as _ I64 8 _ _ _ _ _ _ _ (c .before .before .before .before .enum-told4 .given .1) (λ j. refl) (p .0), p .1)
 
 pub copy-numbers-spec : {M : Type 1} → statement M
 copy-numbers-spec =
     tie.close
     (tie.spec
-    Inv-loop
-    μ-loop
-    loop-holds
-    read-number-requires
-    enum-known-x
+    enum-told
+    copy-each-requires
+    enum-told-2
+    copy-fixed-requires
+    enum-told-3
+    copy-fixed-requires-2
+    enum-told-4
+    copy-fixed-requires-3
     same-length
     returns
-    enum-known-v
-    put-word-requires
-    add-word
-    sub-left
-    loop-less
-    loop-again
     same-length-2
-    returns-2)
+    returns-2
+    same-length-3
+    returns-3
+    same-length-4
+    returns-4)
