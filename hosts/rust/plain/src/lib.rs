@@ -95,8 +95,7 @@ pub fn read(file: &[u8]) -> Result<Reading, Refusal> {
 }
 
 /// Puts so many varints, which stand one behind the other, to the numbers: the reader's loop over a list of indices,
-/// alone. It stays a function of its own, so that it comes to a varint as the reader does, wherever it is timed.
-#[inline(never)]
+/// alone.
 pub fn varints(data: &[u8], count: u64, numbers: &mut Vec<u64>) -> Result<(), Stop> {
     let mut cursor = Cursor::new(data);
     for _ in 0..count {
