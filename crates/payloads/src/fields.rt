@@ -158,8 +158,8 @@ fn number_of(run: &[u8]) -> u64
     value
 }
 
-// Puts `count` numbers of `width` bytes that stand one behind the other. A sheet that has no word for the first is left at
-// once: a pass that measures has nothing to put.
+// Puts `count` numbers of `width` bytes that stand one behind the other. A sheet that has no word for the first is left
+// at once: a pass that measures has nothing to put.
 pub fn put_numbers(run: &[u8], width: usize, count: usize, sheet: &mut [u8], at: usize)
     requires { ⌜ (width ≤ 8) × (count * width ≤ length (now run)) × (at + count < 2 ^ 64) ⌝ }
     ensures { λ _. ⌜ now (sheet .exit) ≡ putWords (now (sheet .entry)) at (nums count width (now (run .entry))) ⌝ }

@@ -1,4 +1,5 @@
--- `number_of` takes the highest byte first: behind each turn stands the number of the bytes from there on. Assumes nothing.
+-- `number_of` takes the highest byte first: after each turn it has the number that the bytes from there on are.
+-- Assumes nothing.
 use Prim.Native.Nat.{_+_, _-_, _*_}
 use native.Mathlib.Omega.{arith}
 use lib.ListN.{getD}
