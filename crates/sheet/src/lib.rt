@@ -9,8 +9,8 @@ ghost use lib.ListN.{length, getD};
 ghost use Rattle.encoding.specs.Out.{put};
 ghost use Rattle.sheet.specs.Store.{putWord, wordsIn};
 
-// Stores word i where the store has it, and else nothing. It lends the word's own eight bytes, which the compiler sees to
-// have room.
+// Stores word i where the store has it, and else nothing. It lends the word's own eight bytes: the compiler sees that
+// they have room.
 pub fn put_word(store: &mut [u8], i: usize, w: u64)
     ensures { λ _. ⌜ now (store .exit) ≡ putWord (now (store .entry)) i w ⌝ }
 {
