@@ -13,6 +13,7 @@ ghost use mathlib.Core.Path.{_≡_};
 ghost use Rattle.format.specs.Decode.{decode};
 ghost use Rattle.format.specs.Read.{mapRead};
 ghost use Rattle.payloads.specs.Whole.{fileRead, needOf, Reads};
+use container::sections;
 use container::sections::Stopped;
 use enums::Refusal;
 use enums::Stage;
@@ -35,15 +36,16 @@ pub fn measure(file: &[u8]) -> FileRead
 {
     let mut sheet: [u8; 0] = [];
     let mut pool: [u8; 0] = [];
-    fill(file, &mut sheet, &mut pool)
+    fill(file, sections::read_container(file), &mut sheet, &mut pool)
 }
 
 // The tables of a file as a sheet and a pool. The first pass measures, on no store, so that a refused call has written
-// nothing; the second one fills.
+// nothing; the second one fills. Header and sections are read once for both.
 pub fn read(file: &[u8], sheet: &mut [u8], pool: &mut [u8]) -> FileRead
     ensures { λ r. ⌜ Reads (now (file .entry)) (now (sheet .entry)) (now (sheet .exit)) (now (pool .entry)) (now (pool .exit)) r ⌝ }
 {
-    match fill(file, &mut sheet[0..0], &mut pool[0..0]) {
+    let container = sections::read_container(file);
+    match fill(file, container, &mut sheet[0..0], &mut pool[0..0]) {
         FileRead::Stop(x) => FileRead::Stop(x),
         FileRead::Got(need) => {
             if sheet.len() / 8 < need.words || pool.len() < need.bytes {
@@ -53,7 +55,7 @@ pub fn read(file: &[u8], sheet: &mut [u8], pool: &mut [u8]) -> FileRead
                     at: 0,
                 });
             }
-            fill(file, sheet, pool)
+            fill(file, container, sheet, pool)
         }
     }
 }

@@ -7,7 +7,7 @@ ghost use lib.ListN.{length, getD};
 ghost use Rattle.format.specs.Debug.{noDebug};
 ghost use Rattle.format.specs.Decode.{mostBytes};
 ghost use Rattle.format.specs.DecodeDebug.{debugAt};
-ghost use Rattle.container.specs.Container.{versionOf, nowhere};
+ghost use Rattle.container.specs.Container.{versionOf, nowhere, opened, heldContainer};
 ghost use Rattle.sheet.specs.Store.{putWords};
 ghost use Rattle.payloads.specs.Fill.{Fills, Fits};
 ghost use Rattle.payloads.specs.DebugRows.{DebugFills};
@@ -41,6 +41,7 @@ use crate::tables::parse_constant_section;
 use crate::tables::parse_string_section;
 use crate::types::parse_type_section;
 use container::sections;
+use container::sections::Container;
 use container::sections::Judged;
 use container::sections::SectionPlace;
 use container::sections::Stopped;
@@ -321,11 +322,11 @@ fn fill_payloads(
     }
 }
 
-// A pass over the whole file.
-pub fn fill(file: &[u8], sheet: &mut [u8], pool: &mut [u8]) -> FileRead
+// A pass over the whole file, of which header and sections were read before.
+pub fn fill(file: &[u8], container: Container, sheet: &mut [u8], pool: &mut [u8]) -> FileRead
+    requires { ⌜ container ≡ heldContainer (opened (now file)) ⌝ }
     ensures { λ r. ⌜ PassPost (now (file .entry)) (now (sheet .entry)) (now (sheet .exit)) (now (pool .entry)) (now (pool .exit)) r ⌝ }
 {
-    let container = sections::read_container(file);
     let judged = container.judged;
     let places = container.places;
     match judged {

@@ -58,6 +58,37 @@ fn fill_entries(
     TableRead::Got(count, Filled { words, bytes })
 }
 
+// The entries of a table stand one behind the other, from the first one's start to the end of the data: where the pool has
+// room for all of it they are put at once, and the pass over them is lent no pool.
+fn fill_at_once(
+    payload: &[u8],
+    starts: Starts,
+    width: Width,
+    sheet: &mut [u8],
+    pool: &mut [u8],
+    at: Filled,
+) -> TableRead
+    requires { ⌜ Lies (wide width) (now payload) starts ⌝ }
+    requires { ⌜ Fits at (now payload) ⌝ }
+    ensures { λ r. ⌜ Fills at (filling (entriesIn 0 (wide width) (now (payload .entry)) starts)) (now (sheet .entry)) (now (sheet .exit)) (now (pool .entry)) (now (pool .exit)) r ⌝ }
+{
+    let first = starts.first;
+    let base = starts.data;
+    let run = &payload[first..base];
+    let data = &payload[base..];
+    if pool.len() < at.bytes || pool.len() - at.bytes < data.len() {
+        return fill_entries(payload, starts, width, sheet, pool, at);
+    }
+    match fill_entries(payload, starts, width, sheet, &mut pool[0..0], at) {
+        TableRead::Stop(x) => TableRead::Stop(x),
+        TableRead::Got(rows, filled) => {
+            let front = first_entry(run, width, data.len()).start.0;
+            sheet::put_long_run(pool, at.bytes, &data[front..]);
+            TableRead::Got(rows, filled)
+        }
+    }
+}
+
 fn parse_offset_table(
     payload: &[u8],
     width: Width,
@@ -70,7 +101,7 @@ fn parse_offset_table(
 {
     match parse_starts(payload, width) {
         StartsRead::Stop(x) => TableRead::Stop(x),
-        StartsRead::Got(starts) => fill_entries(payload, starts, width, sheet, pool, at),
+        StartsRead::Got(starts) => fill_at_once(payload, starts, width, sheet, pool, at),
     }
 }
 

@@ -3,6 +3,9 @@ use borrow.Author.Needs.{needs}
 use Rattle.payloads.proofs.measure.Statement.{statement}
 use Rattle.payloads.proofs.measure.Tie as tie
 
+read-container-requires : tie.Need-read-container-requires
+read-container-requires c κs = search needs
+
 slice-aggregate-fill : tie.Need-slice-aggregate-fill
 slice-aggregate-fill c = search needs
 
@@ -17,4 +20,4 @@ returns c = c .before .before .fill .ensures .answer
 
 pub measure-spec : {M : Type 1} → statement M
 measure-spec =
-    tie.close (tie.spec slice-aggregate-fill slice-aggregate-fill-2 fill-requires returns)
+    tie.close (tie.spec read-container-requires slice-aggregate-fill slice-aggregate-fill-2 fill-requires returns)

@@ -1,4 +1,5 @@
--- `read` measures on no stores, and then, if the lent ones are large enough, fills these. Assumes nothing.
+-- `read` measures on no stores, and then, if the lent ones are large enough, fills these; both passes are over what header
+-- and walk gave. Assumes nothing.
 use Rattle.payloads.proofs.LawsReads.{First, reads-stop, reads-small, reads-filled}
 use mathlib.Core.Logic.{⊎-elim, inl, inr}
 use borrow.Author.Tests.{ltb-true, ltb-false}
@@ -8,9 +9,12 @@ use Rattle.payloads.proofs.read.Tie as tie
 
 -- The first pass, on no stores.
 first : (c : tie.After-fill) →
-    First (c .before .before .before .before .before .before .args .file .now) (c .fill .last .1 .0) (c .fill .last .1 .1 .0)
+    First (c .before .before .before .before .before .before .before .args .file .now) (c .fill .last .1 .1 .0) (c .fill .last .1 .1 .1 .0)
     (c .fill .result)
-first c = record { sheet = c .fill .kept .1 .0; pool = c .fill .kept .1 .1 .0; answer = c .fill .ensures .answer }
+first c = record { sheet = c .fill .kept .1 .1 .0; pool = c .fill .kept .1 .1 .1 .0; answer = c .fill .ensures .answer }
+
+read-container-requires : tie.Need-read-container-requires
+read-container-requires c κs = search needs
 
 sub-fill : tie.Need-sub-fill
 sub-fill c = search needs
@@ -84,6 +88,7 @@ pub read-spec : {M : Type 1} → statement M
 read-spec =
     tie.close
     (tie.spec
+    read-container-requires
     sub-fill
     part-fill-start
     part-fill-end

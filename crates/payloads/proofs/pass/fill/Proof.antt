@@ -10,9 +10,6 @@ use borrow.Author.Needs.{needs}
 use Rattle.payloads.proofs.pass.fill.Statement.{statement}
 use Rattle.payloads.proofs.pass.fill.Tie as tie
 
-read-container-requires : tie.Need-read-container-requires
-read-container-requires c κs = search needs
-
 enum-known-judged : tie.Need-enum-known-judged
 enum-known-judged c = search needs
 
@@ -22,16 +19,17 @@ enum-told c = search needs
 fill-payloads-requires : tie.Need-fill-payloads-requires
 fill-payloads-requires c κs =
     let test = c .before .before .before in
-    let call = test .before .before in
-    let file = call .before .before .before .before .args .file .now in
-    let (x, o, version, places) = held-passed _ _ (call .read-container .ensures) (test .match .keys2) in (
+    let start = test .before .before .before .before .before in
+    let file = start .args .file .now in
+    let (x, o, version, places) = held-passed _ _ (start .pre) (test .match .keys2) in (
       opened-container file x o .0,
       λ id. subst (λ ps. Inside file (getD ps id nowhere)) (sym places) (held-inside file x o id),
     )
 
 returns : tie.Need-returns
 returns c =
-    let refused = held-stop _ _ _ (c .before .before .before .before .read-container .ensures) (c .before .judged .given .1) in
+    let start = c .before .before .before .before .before .before .before in
+    let refused = held-stop _ _ _ (start .pre) (c .before .judged .given .1) in
     pass-refused _ _ _ _ _ _ refused
 
 same-length : tie.Need-same-length
@@ -44,14 +42,14 @@ returns-2 : tie.Need-returns-2
 returns-2 c =
     let call = c .before .before .before .before in
     let test = call .before .before .before .before in
-    let (x, o, version, places) = held-passed _ _ (test .before .before .read-container .ensures) (test .match .keys2) in
+    let start = test .before .before .before .before .before in
+    let (x, o, version, places) = held-passed _ _ (start .pre) (test .match .keys2) in
     pass-held _ x o _ _ _ _ _ _ _ version places (call .fill-payloads .ensures)
 
 pub fill-spec : {M : Type 1} → statement M
 fill-spec =
     tie.close
     (tie.spec
-    read-container-requires
     enum-known-judged
     enum-told
     fill-payloads-requires

@@ -19,8 +19,8 @@ enum-known-x c = search needs
 enum-known-starts : tie.Need-enum-known-starts
 enum-known-starts c = search needs
 
-fill-entries-requires : tie.Need-fill-entries-requires
-fill-entries-requires c κs =
+fill-at-once-requires : tie.Need-fill-at-once-requires
+fill-at-once-requires c κs =
     (starts-lie _ _ _ _ _ (sym (told (gotStarts _ _) (c .before .before .before .starts .given .1) (c .before .before .before .before .before .parse-starts .ensures))), c .before .before .before .before .before .before .before .before .before .pre)
 
 returns : tie.Need-returns
@@ -37,7 +37,7 @@ same-length-2 c = search needs
 returns-2 : tie.Need-returns-2
 returns-2 c =
     let t = told (gotStarts _ _) (c .before .before .before .before .before .before .before .before .starts .given .1) (c .before .before .before .before .before .before .before .before .before .before .parse-starts .ensures) in
-    rw (table-got _ _ _ t 0) (c .before .before .before .before .fill-entries .ensures)
+    rw (table-got _ _ _ t 0) (c .before .before .before .before .fill-at-once .ensures)
 
 pub parse-offset-table-spec : {M : Type 1} → statement M
 parse-offset-table-spec =
@@ -46,7 +46,7 @@ parse-offset-table-spec =
     parse-starts-requires
     enum-known-x
     enum-known-starts
-    fill-entries-requires
+    fill-at-once-requires
     returns
     same-length
     same-length-2
