@@ -122,17 +122,22 @@ module _ (w m n s : ℕ) (l : List ℕ) (i e j : ℕ) (next : got e j ≡ number
   unfolding endAt follow
   end-is = rw (← next)
 
-  pub end-before : e < s → stop refusals.bounds 0 ≡ endAt w m n s l i
-  end-before h = let k : ¬ (s + m ≤ e) = omega arith in bounded-short m n s e j k ∙ end-is
-
-  pub end-short : s ≤ e → e - s < m → stop refusals.bounds 0 ≡ endAt w m n s l i
-  end-short g h = let k : ¬ (s + m ≤ e) = omega arith in bounded-short m n s e j k ∙ end-is
-
   pub end-outside : n < e → stop refusals.bounds 0 ≡ endAt w m n s l i
   end-outside h = bounded-outside m n s e j h ∙ end-is
 
-  pub end-good : s ≤ e → m ≤ e - s → e ≤ n → got e j ≡ endAt w m n s l i
-  end-good g h k = let q : s + m ≤ e = omega arith in bounded-good m n s e j q k ∙ end-is
+  pub end-short : e < s + m → stop refusals.bounds 0 ≡ endAt w m n s l i
+  end-short h = let k : ¬ (s + m ≤ e) = omega arith in bounded-short m n s e j k ∙ end-is
+
+  pub end-good : s + m ≤ e → e ≤ n → got e j ≡ endAt w m n s l i
+  end-good h k = bounded-good m n s e j h k ∙ end-is
+
+  -- No bytes stand between start and end: that is too few, or enough.
+  pub end-none : e ≤ s → (e < s) ⊎ (0 < m) → stop refusals.bounds 0 ≡ endAt w m n s l i
+  end-none g (inl h) = end-short (omega arith)
+  end-none g (inr h) = end-short (omega arith)
+
+  pub end-empty : s ≤ e → m ≤ 0 → e ≤ n → got e j ≡ endAt w m n s l i
+  end-empty g h k = end-good (omega arith) k
 
 -- What the answer says of the number and of the bounds.
 module _ (w m n s : ℕ) (l : List ℕ) (i : ℕ) where

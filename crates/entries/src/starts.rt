@@ -175,18 +175,20 @@ fn out_of_bounds() -> NumRead
 }
 
 // Where the entry ends that begins at `start`: at the next start, and the last one where the data ends. It has to lie in the
-// data, and to have `least` bytes, or ids, at least.
+// data, and to have `least` bytes, or ids, at least. Of an entry that ends behind its start that is one test, and so it is
+// of any other where `least` is known to be 0, or not to be.
 fn end_of(starts: &[u8], width: Width, size: u64, least: u64, start: u64, next: usize) -> NumRead
     ensures { λ r. ⌜ gotNum r ≡ endAt (wide width) least size start (now (starts .entry)) next ⌝ }
 {
     let end = number_or(starts, next, width, size);
-    if end.value < start {
-        return out_of_bounds();
-    }
-    if end.value - start < least {
-        return out_of_bounds();
-    }
     if size < end.value {
+        return out_of_bounds();
+    }
+    if end.value <= start {
+        if end.value < start || 0 < least {
+            return out_of_bounds();
+        }
+    } else if end.value - start < least {
         return out_of_bounds();
     }
     NumRead::Got(end.value, Reader { pos: end.next })

@@ -89,7 +89,7 @@ zeros-more s t i zero h e = let z : ⊥ = omega arith in absurd z
 zeros-more s t i (suc n) h e = let q : suc n - 1 ≡ n = omega arith in rw (q, e)
 
 -- The words of an attribute with these fields.
-words-of : (t : ℕ) (vs : List ℕ) → length vs ≤ 6 → attributeWords (attributeOf t vs) ≡ t ∷ (vs ++ replicate (6 - length vs) 0)
+pub words-of : (t : ℕ) (vs : List ℕ) → length vs ≤ 6 → attributeWords (attributeOf t vs) ≡ t ∷ (vs ++ replicate (6 - length vs) 0)
 unfolding attributeWords attributeFields
 words-of t [] h = refl
 words-of t (a ∷ []) h = refl

@@ -13,6 +13,7 @@ pub mod LawsEntryRows
 pub mod LawsTypeSection
 pub mod LawsDebug
 pub mod LawsEnds
+pub mod LawsShorts
 pub mod LawsFilled
 pub mod LawsSizes
 pub mod LawsPass

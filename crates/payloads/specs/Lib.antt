@@ -4,6 +4,7 @@ pub mod Rows
 pub mod Fields
 pub mod Indices
 pub mod TypeRows
+pub mod Shorts
 pub mod DebugRows
 pub mod Pass
 pub mod Whole

@@ -2,8 +2,8 @@
 // one by one, and then the lists.
 ghost use mathlib.Core.Path.{_≡_};
 ghost use Prim.Native.Nat.{ℕ, _+_, _-_, _*_, _^_, _≤_, _<_};
-ghost use mathlib.Core.Bool.{true};
-ghost use mathlib.Core.List.{List};
+ghost use mathlib.Core.Bool.{true, false};
+ghost use mathlib.Core.List.{List, _∷_};
 ghost use lib.ListN.{length, take, drop, replicate};
 ghost use Rattle.exact.specs.Got.{got};
 ghost use Rattle.exact.specs.Sequence.{mapped};
@@ -15,6 +15,7 @@ ghost use Rattle.format.specs.Sheet.{attributeWords};
 ghost use Rattle.format.specs.DecodeDebug.{attributeAt, debugAt};
 ghost use Rattle.sheet.specs.Store.{putWords};
 ghost use Rattle.entries.specs.Starts.{Lies, numbersIn};
+ghost use Rattle.payloads.specs.Shorts.{shorts};
 ghost use Rattle.payloads.specs.Fill.{Fits};
 ghost use Rattle.payloads.specs.TypeRows.{Row, wordsOf, entriesBy};
 ghost use Rattle.payloads.specs.DebugRows.{listRows, debugFrom, DebugFills};
@@ -147,21 +148,101 @@ fn is_whole(data: &[u8], start: usize, end: usize) -> bool
     DebugTag::field_count(tag as u64) < ends_of(&data[start..stop], size as u8) as u64
 }
 
-// An attribute that the sheet has no word for, as in the pass that measures, is only looked at; any other is read.
+// The fields of an attribute, taken for numbers of one byte or two: where the last of them ends, how many are longer, and
+// six words, 0 for a field that the attribute does not have.
+pub struct Shorts {
+    pub end: usize,
+    pub long: u64,
+    pub words: [u64; 6],
+}
+
+// At each of the six two bytes are looked at, whether they are its own or not: no branch waits for them.
+fn short_fields(data: &[u8], from: usize, count: u64) -> Shorts
+    requires { ⌜ from + 12 ≤ length (now «data») ⌝ }
+    ensures { λ r. ⌜ r ≡ shorts (now («data» .entry)) from count 6 ⌝ }
+{
+    let mut end = from;
+    let mut long: u64 = 0;
+    let mut words = [0u64; 6];
+    let mut k: usize = 0;
+    while k < 6 {
+        let first = data[end] as u64;
+        let second = data[end + 1] as u64;
+        let more = first / 128;
+        let high = 128 * more * second;
+        let mut value = 0;
+        if (k as u64) < count {
+            value = first % 128 + high;
+            long += high / 16384;
+            end += 1 + more as usize;
+        }
+        words[k] = value;
+        k += 1;
+    }
+    Shorts { end, long, words }
+}
+
+// Puts an attribute's row: its tag, and its fields.
+fn put_attribute(sheet: &mut [u8], word: usize, tag: u64, fields: [u64; 6])
+    requires { ⌜ word + 8 < 2 ^ 64 ⌝ }
+    ensures { λ _. ⌜ now (sheet .exit) ≡ putWords (now (sheet .entry)) word (tag ∷ fields) ⌝ }
+{
+    sheet::put_word(sheet, word, tag);
+    let first = word + 1;
+    let mut k: usize = 0;
+    while k < 6 {
+        sheet::put_word(sheet, first + k, fields[k]);
+        k += 1;
+    }
+}
+
+// Puts an attribute whose numbers are all short. No says nothing, and that nothing is put: the attribute is then read.
+fn put_short(data: &[u8], start: usize, end: usize, sheet: &mut [u8], word: usize) -> bool
+    requires { ⌜ start < end ⌝ }
+    requires { ⌜ end ≤ length (now «data») ⌝ }
+    requires { ⌜ word + length (now «data») + 8 ≤ 2 ^ 62 ⌝ }
+    ensures { λ r. ⌜ (r ≡ true → (ws : List ℕ) × (mapped attributeWords attributeAt (take (end - start) (drop start (now («data» .entry)))) 0 ≡ got ws (end - start)) × (length ws ≡ 7) × (now (sheet .exit) ≡ putWords (now (sheet .entry)) word ws)) ⌝ }
+    ensures { λ r. ⌜ (r ≡ false → now (sheet .exit) ≡ now (sheet .entry)) ⌝ }
+{
+    if data.len() - start < 13 {
+        return false;
+    }
+    let tag = data[start];
+    if 7 <= tag {
+        return false;
+    }
+    let count = DebugTag::field_count(tag as u64);
+    let fields = short_fields(data, start + 1, count);
+    if end < fields.end {
+        return false;
+    }
+    if 0 < fields.long {
+        return false;
+    }
+    let words = fields.words;
+    put_attribute(sheet, word, tag as u64, words);
+    true
+}
+
+// An attribute that the sheet has no word for, as in the pass that measures, is only looked at; one of short numbers is put
+// at once; any other is read.
 fn any_attribute(data: &[u8], start: usize, end: usize, sheet: &mut [u8], word: usize) -> SpotRead
     requires { ⌜ start < end ⌝ }
     requires { ⌜ end ≤ length (now «data») ⌝ }
     requires { ⌜ word + length (now «data») + 8 ≤ 2 ^ 62 ⌝ }
     ensures { λ r. ⌜ Row (mapped attributeWords attributeAt (take (end - start) (drop start (now («data» .entry)))) 0) word (now (sheet .entry)) (now (sheet .exit)) r ⌝ }
 {
+    let row = SpotRead::Got(Spot {
+        pos: end - start,
+        word: word + 7,
+        value: 0,
+    });
     if sheet.len() / 8 <= word {
         if is_whole(data, start, end) {
-            return SpotRead::Got(Spot {
-                pos: end - start,
-                word: word + 7,
-                value: 0,
-            });
+            return row;
         }
+    } else if put_short(data, start, end, sheet, word) {
+        return row;
     }
     parse_attribute(&data[start..end], sheet, word)
 }
