@@ -174,9 +174,9 @@ fn out_of_bounds() -> NumRead
     })
 }
 
-// Where the entry ends that begins at `start`: at the next start, and the last one where the data ends. It has to lie in the
-// data, and to have `least` bytes, or ids, at least. The tests stand so that the compiler, which sees a `least` of 0 or 1,
-// leaves one comparison of start and end.
+// Where the entry ends that begins at `start`: at the next start, and the last one where the data ends. It has to lie
+// in the data, and to have `least` bytes, or ids, at least. The tests stand so that the compiler, which sees a `least`
+// of 0 or 1, leaves one comparison of start and end.
 fn end_of(starts: &[u8], width: Width, size: u64, least: u64, start: u64, next: usize) -> NumRead
     ensures { λ r. ⌜ gotNum r ≡ endAt (wide width) least size start (now (starts .entry)) next ⌝ }
 {

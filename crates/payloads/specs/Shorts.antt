@@ -1,5 +1,5 @@
--- Numbers that are taken for varints of one byte or two (document 01, "Numbers": seven bits in a byte, lowest first, the top
--- bit set where another follows).
+-- Numbers that are taken for varints of one byte or two (document 01, "Numbers": a varint has seven bits of the number
+-- in each byte, the lowest first, and a byte's top bit says that another follows).
 use Prim.Native.Nat.{ℕ, zero, suc, _+_, _*_, _/_, _%_}
 use mathlib.Core.List.{List, [], _∷_}
 use lib.ListN.{getD}

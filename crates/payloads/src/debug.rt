@@ -148,8 +148,8 @@ fn is_whole(data: &[u8], start: usize, end: usize) -> bool
     DebugTag::field_count(tag as u64) < ends_of(&data[start..stop], size as u8) as u64
 }
 
-// The fields of an attribute, taken for numbers of one byte or two: where the last of them ends, how many are longer, and
-// six words, 0 for a field that the attribute does not have.
+// The fields of an attribute, taken for numbers of one byte or two: where the last of them ends, how many are longer,
+// and six words, 0 for a field that the attribute does not have.
 pub struct Shorts {
     pub end: usize,
     pub long: u64,
@@ -224,8 +224,8 @@ fn put_short(data: &[u8], start: usize, end: usize, sheet: &mut [u8], word: usiz
     true
 }
 
-// An attribute that the sheet has no word for, as in the pass that measures, is only looked at; one of short numbers is put
-// at once; any other is read.
+// An attribute that the sheet has no word for, as in the pass that measures, is only looked at; one of short numbers is
+// put at once; any other is read.
 fn any_attribute(data: &[u8], start: usize, end: usize, sheet: &mut [u8], word: usize) -> SpotRead
     requires { ⌜ start < end ⌝ }
     requires { ⌜ end ≤ length (now «data») ⌝ }

@@ -58,8 +58,8 @@ fn fill_entries(
     TableRead::Got(count, Filled { words, bytes })
 }
 
-// The entries of a table stand one behind the other, from the first one's start to the end of the data: where the pool has
-// room for all of it they are put at once, and the pass over them is lent no pool.
+// The entries of a table stand one behind the other, from the first one's start to the end of the data: where the pool
+// has room for all of it they are put at once, and the pass over them is lent no pool.
 fn fill_at_once(
     payload: &[u8],
     starts: Starts,

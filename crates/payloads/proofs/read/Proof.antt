@@ -1,5 +1,5 @@
--- `read` measures on no stores, and then, if the lent ones are large enough, fills these; both passes are over what header
--- and walk gave. Assumes nothing.
+-- `read` measures on no stores, and then, if the lent ones are large enough, fills these; both passes are over what
+-- header and walk gave. Assumes nothing.
 use Rattle.payloads.proofs.LawsReads.{First, reads-stop, reads-small, reads-filled}
 use mathlib.Core.Logic.{⊎-elim, inl, inr}
 use borrow.Author.Tests.{ltb-true, ltb-false}

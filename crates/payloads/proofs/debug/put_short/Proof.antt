@@ -1,5 +1,5 @@
--- `put_short` puts an attribute that is read, since each of its numbers is one byte or two and the last ends in time; or
--- it puts nothing. Assumes nothing.
+-- `put_short` puts an attribute that is read, since each of its numbers is one byte or two and the last ends in time;
+-- or it puts nothing. Assumes nothing.
 use mathlib.Core.Path.{refl, sym, ap, _∙_}
 use mathlib.Core.Bool.{true≢false}
 use Prim.Native.Nat.{ℕ, _+_, _<_}
