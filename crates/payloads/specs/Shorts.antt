@@ -1,5 +1,5 @@
--- Numbers that are taken for varints of one byte or two (document 01, "Numbers": a varint has seven bits of the number
--- in each byte, the lowest first, and a byte's top bit says that another follows).
+-- Numbers that are taken for varints of one byte or two (document 01, "Numbers on the wire": seven bits a byte, low
+-- first, top bit means more).
 use Prim.Native.Nat.{ℕ, zero, suc, _+_, _*_, _/_, _%_}
 use mathlib.Core.List.{List, [], _∷_}
 use lib.ListN.{getD}
