@@ -68,7 +68,7 @@ use Rattle.payloads.specs.declared.fields.SpotRead.the-variants as spot
 use Rattle.payloads.specs.declared.fields.Number.the-variants.{Varint}
 use Rattle.payloads.specs.declared.debug.DebugRead.{DebugRead}
 use Rattle.payloads.specs.declared.debug.DebugRead.the-variants as debug
-use Rattle.payloads.specs.Fields.{numberAt, numbers, Put}
+use Rattle.payloads.specs.Fields.{numberAt, several, numbers, Put}
 use Rattle.payloads.specs.TypeRows.{Row, wordsOf, entriesBy}
 use Rattle.payloads.specs.DebugRows.{listRows, debugWords, debugFrom, counted, debugBehind, DebugFills}
 use Rattle.payloads.proofs.LawsFields.{map-got, map-stop, times-length}
@@ -142,7 +142,7 @@ fields-at a j w v n l s s' r e x = subst (λ a. Put (numbers n n Varint l (a .po
 module _ (l s s₁ s₂ : List ℕ) (w t j n : ℕ) (e : byte l 0 ≡ got t j) (h : t < 7) (c : n ≡ getD fieldCounts t 0) where
   fields-stop : (g : Got (List ℕ)) (x : Refused) → times n varintAt l j ≡ g → Put (numbers n n Varint l j) (w + 1) s₁ s₂ (spot.Stop x) →
       g ≡ stop (x .no) (x .at)
-  unfolding Put numbers numberAt sequence.mapped bind follow pure
+  unfolding Put numbers several numberAt sequence.mapped bind follow pure
   fields-stop (got vs k) x f p = let y = rw f at p in let z : _≡_ {A = ℕ} 0 1 = cc (y .0) in let q : ⊥ = omega arith in absurd q
   fields-stop (stop d k) x f p = let y = rw f at p in cc (y)
 
@@ -152,7 +152,7 @@ module _ (l s s₁ s₂ : List ℕ) (w t j n : ℕ) (e : byte l 0 ≡ got t j) (
 
   fields-got : (g : Got (List ℕ)) (b : Spot) → times n varintAt l j ≡ g → Put (numbers n n Varint l j) (w + 1) s₁ s₂ (spot.Got b) →
       (vs : List ℕ) × (times n varintAt l j ≡ got vs (b .pos)) × (b .word ≡ w + 1 + length vs) × (s₂ ≡ putWords s₁ (w + 1) vs)
-  unfolding Put numbers numberAt sequence.mapped bind follow pure
+  unfolding Put numbers several numberAt sequence.mapped bind follow pure
   fields-got (got vs k) b f p =
       let y = rw f at p in
       (vs, f ∙ ap (got vs) (cc (y .0)), cc (y .0), y .1)

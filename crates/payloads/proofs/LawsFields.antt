@@ -30,7 +30,7 @@ use Rattle.payloads.specs.declared.fields.Number.the-variants.{Varint, B
 use Rattle.payloads.specs.declared.fields.SpotRead.{SpotRead}
 use Rattle.payloads.specs.declared.fields.Spot.{Spot}
 use Rattle.payloads.specs.declared.fields.SpotRead.the-variants as spot
-use Rattle.payloads.specs.Fields.{numberAt, fieldIf, asWord, listed, numbers, valueOf, Put, Copied, Within, Grows, Room}
+use Rattle.payloads.specs.Fields.{numberAt, fieldIf, asWord, listed, several, numbers, valueOf, Put, Copied, Within, Grows, Room}
 
 -- What a function of a parser's value answers.
 module _ {A B : Type 0} (f : A → B) (p : Parser A) (l : List ℕ) (i : ℕ) where
@@ -237,18 +237,18 @@ times-length (suc n) p l i vs j e =
 -- How the loop over numbers goes on.
 module _ (m : ℕ) (k : Number) (l : List ℕ) (i w : ℕ) (s s' : List ℕ) where
   pub numbers-done : (n : ℕ) → n ≤ 0 → s' ≡ s → Put (numbers m n k l i) w s s' (spot.Got record { pos = i; word = w; value = m })
-  unfolding numbers times Put putWords mapped bind follow pure
+  unfolding numbers several times Put putWords mapped bind follow pure
   numbers-done zero h e = (rw add-zero refl, e)
   numbers-done (suc n) h e = let z : ⊥ = omega arith in absurd z
 
   pub numbers-stop : (n : ℕ) (x : Refused) → 0 < n → numberAt k l i ≡ stop (x .no) (x .at) → Put (numbers m n k l i) w s s' (spot.Stop x)
-  unfolding numbers times Put mapped bind follow
+  unfolding numbers several times Put mapped bind follow
   numbers-stop zero x h e = let z : ⊥ = omega arith in absurd z
   numbers-stop (suc n) x h e = rw e refl
 
   numbers-next : (n v j : ℕ) (s₁ : List ℕ) (r : SpotRead) (g : Got (List ℕ)) → numberAt k l i ≡ got v j → s₁ ≡ putWord s w v →
       times n (numberAt k) l j ≡ g → Put (numbers m n k l j) (w + 1) s₁ s' r → Put (numbers m (suc n) k l i) w s s' r
-  unfolding numbers times Put mapped bind follow pure putWords
+  unfolding numbers several times Put mapped bind follow pure putWords
   numbers-next n v j s₁ r (got vs e) a h f x =
       let q : w + 1 + length vs ≡ w + suc (length vs) = omega arith in
       let (y, z) = rw f at x in
@@ -278,7 +278,7 @@ list-stop k l i c m e = rw e
 module _ (k : Number) (l : List ℕ) (i : ℕ) where
   list-rest : (n j : ℕ) → varintAt l i ≡ got n j → (g : Got (List ℕ)) → times n (numberAt k) l j ≡ g →
       then (asWord varintAt) (λ n. numbers n n k) l i ≡ listed k l i
-  unfolding then asWord numbers listed counted mapped bind follow pure
+  unfolding then asWord numbers several listed counted mapped bind follow pure
   list-rest n j e (got vs m) f =
       let q : length vs ≡ n = times-length n (numberAt k) l j vs m f in
       rw (e, f, q)

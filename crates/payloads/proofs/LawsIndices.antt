@@ -25,7 +25,7 @@ use Rattle.payloads.specs.declared.fields.Number.the-variants.{Varint}
 use Rattle.payloads.specs.declared.fields.SpotRead.{SpotRead}
 use Rattle.payloads.specs.declared.fields.Spot.{Spot}
 use Rattle.payloads.specs.declared.fields.SpotRead.the-variants as spot
-use Rattle.payloads.specs.Fields.{numberAt, numbers, valueOf, Put, Copied, Within, Grows}
+use Rattle.payloads.specs.Fields.{numberAt, several, numbers, valueOf, Put, Copied, Within, Grows}
 use Rattle.payloads.specs.Indices.{tops, Spans, Even}
 use Rattle.payloads.proofs.LawsFields.{then, copied-then, copied-stop, copied-at, numbers-done, numbers-more, within-got}
 
@@ -69,18 +69,18 @@ module _ {A : Type 0} (p : Parser A) (l : List ℕ) where
 module _ (k : Number) (l : List ℕ) where
   rest-last : (m b j : ℕ) (us : List ℕ) (h : Got (List ℕ)) → times b (numberAt k) l j ≡ h →
       mapped {B = ℕ × List ℕ} (λ v. (v .0, us ++ v .1)) (numbers m b k) l j ≡ follow (follow h (λ vs k. got (us ++ vs) k)) (λ vs k. got (m, vs) k)
-  unfolding numbers mapped bind follow pure
+  unfolding numbers several mapped bind follow pure
   rest-last m b j us (got vs e) f = rw f
   rest-last m b j us (stop d e) f = rw f
 
   rest-first : (m c a b i : ℕ) (g : Got (List ℕ)) → times a (numberAt k) l i ≡ g →
       then (numbers c a k) (λ _. numbers m b k) l i ≡ follow (both (numberAt k) l b g) (λ vs k. got (m, vs) k)
-  unfolding then numbers mapped bind follow pure
+  unfolding then numbers several mapped bind follow pure
   rest-first m c a b i (got us j) e = rw e (rest-last m b j us (times b (numberAt k) l j) refl)
   rest-first m c a b i (stop d j) e = rw e
 
   rest-same : (m c a b i : ℕ) → then (numbers c a k) (λ _. numbers m b k) l i ≡ numbers m (a + b) k l i
-  unfolding numbers mapped bind pure
+  unfolding numbers several mapped bind pure
   rest-same m c a b i =
       rest-first m c a b i (times a (numberAt k) l i) refl ∙ ap (λ g. follow g (λ vs k. got (m, vs) k)) (sym (times-add (numberAt k) l a b i))
 
@@ -105,7 +105,7 @@ value-told n w s s' t (stop c j) x = let z : _≡_ {A = ℕ} 0 1 = cc in let y :
 
 module _ (k : Number) (l : List ℕ) (n i w : ℕ) (s s₁ : List ℕ) {r₁ : SpotRead} (x : Put (numbers n n k l i) w s s₁ r₁) where
   pub some-value : (t : Spot) → r₁ ≡ spot.Got t → t .value ≡ n
-  unfolding numbers mapped bind pure
+  unfolding numbers several mapped bind pure
   some-value t e = value-told n w s s₁ t (times n (numberAt k) l i) (subst (λ r. Put (numbers n n k l i) w s s₁ r) e x)
 
   -- The rest are copied behind them ..

@@ -49,7 +49,7 @@ several m n p = mapped (λ vs. (m, vs)) (times n p)
 
 -- The same, by how the numbers stand.
 unfoldable pub numbers : ℕ → ℕ → Number → Parser (ℕ × List ℕ)
-numbers m n k = mapped (λ vs. (m, vs)) (times n (numberAt k))
+numbers m n k = several m n (numberAt k)
 
 -- The value to go on with.
 unfoldable pub valueOf : SpotRead → ℕ
