@@ -3,13 +3,12 @@
 use mathlib.Core.Path.{_≡_, refl, sym, ap, _∙_, subst}
 use Prim.Native.Nat.{ℕ, zero, suc, _+_, _*_, _-_, _≤_, _<_}
 use native.Mathlib.Nat.{add-zero}
-use native.Mathlib.Numerals.{add-one}
 use native.Mathlib.Omega.{arith}
 use native.Mathlib.Decide.{decLe, decLt}
 use mathlib.Core.Option.{Option, none, some}
 use mathlib.Core.List.{List, [], _∷_, _++_, map}
-use lib.ListN.{length, getD, take, drop, replicate, length-replicate, length-append, drop-of-length-le}
-use lib.Seq.{drop-cons, length-slice}
+use lib.ListN.{length, getD, take, drop, replicate, length-replicate, length-append}
+use lib.Seq.{length-slice}
 use Rattle.exact.specs.Got.{Got, got, stop, follow}
 use Rattle.exact.specs.Basic.{byte, pure}
 use Rattle.exact.specs.Sequence.{bind}
@@ -24,7 +23,7 @@ use Rattle.exact.specs.Entries.{rows, entries}
 use Rattle.exact.proofs.LawsExact.{stop-not-got, got-value, got-next}
 use Rattle.exact.proofs.LawsChoice.{choose-yes, choose-no}
 use Rattle.exact.proofs.LawsSequence.{bind-got, bind-stop, follow-follow}
-use Rattle.exact.proofs.LawsSteps.{byte-at, byte-end, fixed-at, nums-at}
+use Rattle.exact.proofs.LawsSteps.{byte-at, byte-end}
 use Rattle.exact.proofs.LawsTiling.{cut-is}
 use Rattle.exact.proofs.LawsFixed.{length-nums}
 use Rattle.enums.specs.Container.{P}
@@ -46,7 +45,7 @@ use Rattle.sheet.proofs.LawsStore.{putWords-append}
 use Rattle.entries.specs.Starts.{arrayAt, numbersIn, gotStarts, Lies, numberOr, endAt}
 use Rattle.entries.specs.declared.starts.Starts.{Starts}
 use Rattle.entries.specs.declared.starts.StartsRead.the-variants as starts
-use Rattle.entries.proofs.LawsStarts.{number-read, end-got, end-stop}
+use Rattle.entries.proofs.LawsStarts.{end-got, end-stop}
 use Rattle.entries.proofs.LawsEntries.{
   array-padded,
   array-refused,

@@ -1,7 +1,7 @@
 -- Lists of varints that are copied some numbers at a time: some and then the rest are all of them; a varint of one byte
 -- or two; and blocks of them. Assumes nothing.
 use mathlib.Core.Path.{_≡_, refl, sym, ap, _∙_, subst}
-use Prim.Native.Nat.{ℕ, zero, suc, _+_, _-_, _*_, _/_, _%_, _^_, _≤_, _<_}
+use Prim.Native.Nat.{ℕ, zero, suc, _+_, _-_, _*_, _/_, _%_, _≤_, _<_}
 use native.Mathlib.Decide.{ℕ-discrete}
 use native.Mathlib.Nat.{add-mul, zero-mul, suc-mul}
 use native.Mathlib.Omega.{arith}

@@ -5,7 +5,6 @@ use Prim.Native.Nat.{ℕ, zero, suc, _+_, _*_, _-_, _/_, _%_, _≤_, _<_}
 use native.Mathlib.Nat.{add-zero, zero-add}
 use native.Mathlib.Omega.{arith}
 use native.Mathlib.Decide.{decLt}
-use native.Mathlib.Numerals.{add-one}
 use mathlib.Core.List.{List, [], _∷_, _++_, append-nil, append-assoc}
 use lib.ListN.{length, getD, take, drop, set, replicate, length-set, drop-of-length-le}
 use lib.Seq.{drop-cons, getD-take, getD-drop, take-add, take-all, take-set-le, getD-set-same}
@@ -148,6 +147,28 @@ pub row-tagged : (ws : List ℕ) (t w : ℕ) (s s₁ s' : List ℕ) → s₁ ≡
 unfolding putWords
 row-tagged ws t w s s₁ s' e f = f ∙ ap (λ s. putWords s (w + 1) ws) e
 
+-- What such numbers are.
+module _ (d : List ℕ) where
+  -- Numbers end behind where they begin.
+  shorts-on : (n m i : ℕ) → i ≤ shorts d i n m .end
+  unfolding shorts
+  shorts-on n zero i = omega arith
+  shorts-on zero (suc m) i = shorts-on zero m i
+  shorts-on (suc n) (suc m) i = omega (arith, shorts-on n m (i + (1 + getD d i 0 / 128)))
+
+  -- There are as many words as were asked for ..
+  words-size : (n m i : ℕ) → length (shorts d i n m .words) ≡ m
+  unfolding shorts
+  words-size n zero i = refl
+  words-size zero (suc m) i = ap suc (words-size zero m i)
+  words-size (suc n) (suc m) i = ap suc (words-size n m (i + (1 + getD d i 0 / 128)))
+
+  -- .. which are 0 without numbers.
+  no-words : (m i : ℕ) → shorts d i zero m .words ≡ replicate m 0
+  unfolding shorts
+  no-words zero i = refl
+  no-words (suc m) i = ap (λ x. 0 ∷ x) (no-words m i)
+
 -- The numbers in the entry from s to z of the data.
 module _ (d : List ℕ) (s z : ℕ) (inside : z ≤ length d) (bytes : (i : ℕ) → getD d i 0 < 256) where
   abbrev entryIn : List ℕ
@@ -183,33 +204,15 @@ module _ (d : List ℕ) (s z : ℕ) (inside : z ≤ length d) (bytes : (i : ℕ)
             spans-two 2 entryIn (i - s) x (λ e. let w : ⊥ = omega arith in absurd w) ∙ ap₂ got v (omega (arith, t))
       ]
 
-  -- Numbers end behind where they begin.
-  shorts-on : (n m i : ℕ) → i ≤ shorts d i n m .end
-  unfolding shorts
-  shorts-on n zero i = omega arith
-  shorts-on zero (suc m) i = shorts-on zero m i
-  shorts-on (suc n) (suc m) i = omega (arith, shorts-on n m (i + (1 + getD d i 0 / 128)))
-
-  words-size : (n m i : ℕ) → length (shorts d i n m .words) ≡ m
-  unfolding shorts
-  words-size n zero i = refl
-  words-size zero (suc m) i = ap suc (words-size zero m i)
-  words-size (suc n) (suc m) i = ap suc (words-size n m (i + (1 + getD d i 0 / 128)))
-
-  no-words : (m i : ℕ) → shorts d i zero m .words ≡ replicate m 0
-  unfolding shorts
-  no-words zero i = refl
-  no-words (suc m) i = ap (λ x. 0 ∷ x) (no-words m i)
-
   -- All of them are read; the other words are 0.
   shorts-read : (n m i : ℕ) → n ≤ m → s ≤ i → shorts d i n m .end ≤ z → shorts d i n m .long ≡ 0 →
       (vs : List ℕ) × (j : ℕ) × (times n varintAt entryIn (i - s) ≡ got vs j) × (shorts d i n m .words ≡ vs ++ replicate (m - n) 0)
   unfolding shorts times bind mapped pure follow
-  shorts-read zero m i h p q l = let o : m - 0 ≡ m = omega arith in ([], i - s, refl, rw o (no-words m i))
+  shorts-read zero m i h p q l = let o : m - 0 ≡ m = omega arith in ([], i - s, refl, rw o (no-words d m i))
   shorts-read (suc n) (suc m) i h p q l =
       let k : ℕ = i + (1 + getD d i 0 / 128) in
       let (vs, j, e, f) = shorts-read n m k (omega arith) (omega arith) q (omega (arith, l)) in
-      let g = short-read i p (omega (arith, q, shorts-on n m k)) (omega (arith, l)) in
+      let g = short-read i p (omega (arith, q, shorts-on d n m k)) (omega (arith, l)) in
       let o : suc m - suc n ≡ m - n = omega arith in
       ((getD d i 0 % 128 + highAt d i) ∷ vs, j, rw (g, e) refl, rw o (ap (λ x. (getD d i 0 % 128 + highAt d i) ∷ x) f))
 
@@ -228,7 +231,7 @@ module _ (d : List ℕ) (s z : ℕ) (inside : z ≤ length d) (bytes : (i : ℕ)
       let h : times (getD fieldCounts c 0) varintAt entryIn 1 ≡ got vs j = ap (λ k. times (getD fieldCounts c 0) varintAt entryIn k) (sym u) ∙ f in
       let k : length vs ≡ getD fieldCounts c 0 = times-length (getD fieldCounts c 0) varintAt entryIn 1 vs j h in
       let w : c ∷ r .words ≡ attributeWords (attributeOf c vs) = ap (λ r. c ∷ r .words) e ∙ ap (λ x. c ∷ x) (g ∙ ap (λ n. vs ++ replicate (6 - n) 0) (sym k)) ∙ sym (words-of c vs (omega (arith, few, k))) in
-      let m = ap (λ r. length (c ∷ r .words)) e ∙ ap suc (words-size (getD fieldCounts c 0) 6 (s + 1)) in
+      let m = ap (λ r. length (c ∷ r .words)) e ∙ ap suc (words-size d (getD fieldCounts c 0) 6 (s + 1)) in
       (one-got entryIn c 1 b t vs j h ∙ ap₂ got (sym w) n, m)
 
 -- The row of an attribute that is put.
