@@ -20,7 +20,7 @@ use payloads::FileRead;
 use sheet::{put_word, word_at};
 
 // The slot of a call that was accepted; or why it was refused.
-#[derive(Drop)]
+#[derive(Clone, Copy)]
 pub enum SlotRead {
     Got(usize),
     Stop(Stopped),

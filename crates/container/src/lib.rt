@@ -7,13 +7,13 @@ use enums::{Refusal, Stage};
 use sections::{Judged, Stopped};
 
 // Bytes of a file: the offset of the first, and how many.
-#[derive(Drop)]
+#[derive(Clone, Copy)]
 pub struct View {
     pub start: usize,
     pub len: usize,
 }
 
-#[derive(Drop)]
+#[derive(Clone, Copy)]
 pub enum ViewRead {
     Got(View),
     Stop(Stopped),

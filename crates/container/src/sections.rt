@@ -15,7 +15,7 @@ use reading::{ByteRead, BytesRead, NumRead, PaddingRead, Reader, Refused, U16Rea
 pub const MOST_BYTES: usize = 1073741824;
 
 // Where the payload of a section stands, if one is present.
-#[derive(Drop)]
+#[derive(Clone, Copy)]
 pub struct SectionPlace {
     pub presence: bool,
     pub start: usize,
@@ -23,39 +23,39 @@ pub struct SectionPlace {
 }
 
 // How the walk ended: behind the end marker, or by a refusal.
-#[derive(Drop)]
+#[derive(Clone, Copy)]
 pub enum Walked {
     End(Reader),
     Stop(Refused),
 }
 
 // The place of each id's payload, and how the walk ended; after a refusal no payload is present.
-#[derive(Drop)]
+#[derive(Clone, Copy)]
 pub struct RawSections {
     pub places: [SectionPlace; 8],
     pub walked: Walked,
 }
 
-#[derive(Drop)]
+#[derive(Clone, Copy)]
 pub struct SectionHeader {
     pub id: u8,
     pub data_len: usize,
 }
 
-#[derive(Drop)]
+#[derive(Clone, Copy)]
 pub enum SectionHeaderRead {
     Got(SectionHeader, Reader),
     Stop(Refused),
 }
 
-#[derive(Drop)]
+#[derive(Clone, Copy)]
 pub enum HeaderRead {
     Got(BytecodeVersion, Reader),
     Stop(Refused),
 }
 
 // A refusal: document 01's number, the stage, and the file offset where it broke.
-#[derive(Drop)]
+#[derive(Clone, Copy)]
 pub struct Stopped {
     pub no: u8,
     pub stage: u8,
@@ -63,14 +63,14 @@ pub struct Stopped {
 }
 
 // Whether header and walk were passed.
-#[derive(Drop)]
+#[derive(Clone, Copy)]
 pub enum Judged {
     Passed,
     Stop(Stopped),
 }
 
 // Header and sections of a file; after a refusal version 0.0 and no payload.
-#[derive(Drop)]
+#[derive(Clone, Copy)]
 pub struct Container {
     pub version: BytecodeVersion,
     pub places: [SectionPlace; 8],

@@ -15,7 +15,7 @@ use enums::{Refusal, Section, Stage};
 use payloads::FileRead;
 
 // The tables whose rows are runs of bytes.
-#[derive(Drop)]
+#[derive(Clone, Copy)]
 pub enum RowKind {
     String,
     Constant,

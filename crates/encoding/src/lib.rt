@@ -13,14 +13,14 @@ ghost use Rattle.encoding.specs.Floats.{WritesFloat};
 use enums::Refusal;
 
 // Where the next byte goes, and the largest alignment asked for so far.
-#[derive(Drop)]
+#[derive(Clone, Copy)]
 pub struct EncodingWriter {
     pub at: usize,
     pub required_alignment: u64,
 }
 
 // The float types that a float attribute is written in.
-#[derive(Drop)]
+#[derive(Clone, Copy)]
 pub enum FloatType {
     F64,
     F8E4M3FN,
@@ -28,14 +28,14 @@ pub enum FloatType {
 }
 
 // What a writer answers: the writer behind its bytes, or a refusal's number.
-#[derive(Drop)]
+#[derive(Clone, Copy)]
 pub enum Written {
     Next(EncodingWriter),
     Refused(u8),
 }
 
 // What a patch answers: the place behind its bytes, or a refusal's number.
-#[derive(Drop)]
+#[derive(Clone, Copy)]
 pub enum Patched {
     Next(usize),
     Refused(u8),

@@ -10,7 +10,7 @@ use crate::starts::{EntryRead, Starts, StartsRead, Width, first_entry, next_entr
 use reading::{NumRead, Reader, Refused};
 
 // Where a row begins in the payload, and its length; no row of that number; or the table is refused.
-#[derive(Drop)]
+#[derive(Clone, Copy)]
 pub enum PlaceRead {
     At(usize, usize),
     Absent,

@@ -9,19 +9,19 @@ use enums::{FunctionFlag, Refusal, VersionClass};
 use reading::{ByteRead, BytesRead, NumRead, Reader, Refused};
 
 // The fields of a global that are there from 13.3 on.
-#[derive(Drop)]
+#[derive(Clone, Copy)]
 pub struct Linkage {
     pub visibility: u8,
     pub constant: u64,
 }
 
-#[derive(Drop)]
+#[derive(Clone, Copy)]
 pub enum LinkageRead {
     Got(Linkage, Reader),
     Stop(Refused),
 }
 
-#[derive(Drop)]
+#[derive(Clone, Copy)]
 pub struct GlobalRow {
     pub name_idx: u64,
     pub type_idx: u64,
@@ -30,14 +30,14 @@ pub struct GlobalRow {
     pub linkage: Linkage,
 }
 
-#[derive(Drop)]
+#[derive(Clone, Copy)]
 pub enum GlobalRead {
     Got(GlobalRow, Reader),
     Stop(Refused),
 }
 
 // A function up to its body.
-#[derive(Drop)]
+#[derive(Clone, Copy)]
 pub struct FuncHead {
     pub name_idx: u64,
     pub sig_idx: u64,
@@ -46,19 +46,19 @@ pub struct FuncHead {
 }
 
 // A function, and where its body begins: it ends where the next row begins.
-#[derive(Drop)]
+#[derive(Clone, Copy)]
 pub struct FuncRow {
     pub head: FuncHead,
     pub body: usize,
 }
 
-#[derive(Drop)]
+#[derive(Clone, Copy)]
 pub enum FuncRead {
     Got(FuncRow, Reader),
     Stop(Refused),
 }
 
-#[derive(Drop)]
+#[derive(Clone, Copy)]
 pub enum ProducerRead {
     Got(u64),
     Stop(Refused),

@@ -13,54 +13,54 @@ use enums::{BytePosition, IdPosition, Refusal};
 use reading::{NumRead, PaddingRead, Reader, Refused, U32Read};
 
 // How many bytes a start or an id has. Starts stand behind padding to as many.
-#[derive(Drop)]
+#[derive(Clone, Copy)]
 pub enum Width {
     Four,
     Eight,
 }
 
 // The starts of an offset table, or the numbers of an array: how many, where the first stands, and where the data begins.
-#[derive(Drop)]
+#[derive(Clone, Copy)]
 pub struct Starts {
     pub count: usize,
     pub first: usize,
     pub data: usize,
 }
 
-#[derive(Drop)]
+#[derive(Clone, Copy)]
 pub enum StartsRead {
     Got(Starts),
     Stop(Refused),
 }
 
 // A number among the starts, and the place behind it.
-#[derive(Drop)]
+#[derive(Clone, Copy)]
 pub struct Number {
     pub value: u64,
     pub next: usize,
 }
 
 // Where the next entry begins in the data, and where the start behind it stands among the starts.
-#[derive(Drop)]
+#[derive(Clone, Copy)]
 pub struct EntryCursor {
     pub start: BytePosition,
     pub next: usize,
 }
 
-#[derive(Drop)]
+#[derive(Clone, Copy)]
 pub enum EntryRead {
     Got(EntryCursor),
     Stop(Refused),
 }
 
 // The same of a list of the Debug section, which begins among the ids.
-#[derive(Drop)]
+#[derive(Clone, Copy)]
 pub struct ListCursor {
     pub start: IdPosition,
     pub next: usize,
 }
 
-#[derive(Drop)]
+#[derive(Clone, Copy)]
 pub enum ListRead {
     Got(ListCursor),
     Stop(Refused),

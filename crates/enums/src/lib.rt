@@ -21,7 +21,7 @@ pub fn magic() -> [u8; 8]
 }
 
 // The id of a section: the low seven bits of the byte that opens it.
-#[derive(Drop)]
+#[derive(Clone, Copy)]
 pub struct Section(pub u8);
 
 impl Section {
@@ -67,7 +67,7 @@ pub fn container_named()
 {}
 
 // The bit flags of a function.
-#[derive(Drop)]
+#[derive(Clone, Copy)]
 pub struct FunctionFlag(pub u8);
 
 impl FunctionFlag {
@@ -90,7 +90,7 @@ impl FunctionFlag {
 }
 
 // The tag that opens a type entry.
-#[derive(Drop)]
+#[derive(Clone, Copy)]
 pub struct TypeTag(pub u8);
 
 impl TypeTag {
@@ -179,7 +179,7 @@ impl TypeTag {
 const FIELD_COUNTS: [u64; 7] = [0, 1, 2, 4, 4, 6, 2];
 
 // The tag that opens a debug attribute.
-#[derive(Drop)]
+#[derive(Clone, Copy)]
 pub struct DebugTag(pub u8);
 
 impl DebugTag {
@@ -225,15 +225,15 @@ impl DebugTag {
 }
 
 // Starts counted in ids and starts counted in bytes are two units: a position among the ids of the Debug section ..
-#[derive(Drop)]
+#[derive(Clone, Copy)]
 pub struct IdPosition(pub usize);
 
 // .. and a position in the data behind a table's starts.
-#[derive(Drop)]
+#[derive(Clone, Copy)]
 pub struct BytePosition(pub usize);
 
 // A refusal: document 01's number.
-#[derive(Drop)]
+#[derive(Clone, Copy)]
 pub struct Refusal(pub u8);
 
 impl Refusal {
@@ -292,7 +292,7 @@ impl Refusal {
 }
 
 // The stage at which a call was refused.
-#[derive(Drop)]
+#[derive(Clone, Copy)]
 pub struct Stage(pub u8);
 
 impl Stage {
@@ -339,7 +339,7 @@ impl Stage {
 }
 
 // A bytecode version: major.minor.tag.
-#[derive(Drop)]
+#[derive(Clone, Copy)]
 pub struct BytecodeVersion {
     pub major: u8,
     pub minor: u8,
@@ -347,7 +347,7 @@ pub struct BytecodeVersion {
 }
 
 // The three classes of versions that the layout knows.
-#[derive(Drop)]
+#[derive(Clone, Copy)]
 pub enum VersionClass {
     Below13_3,
     From13_3,

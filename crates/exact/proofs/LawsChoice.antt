@@ -33,6 +33,7 @@ choose-exact (no h) x y = same-exact y (λ i bs v. (λ r. else h r, λ s. elim s
 module _ {A : Type 0} (P : A → Type 0) {R : Lang A} where
   such-to : (i : ℕ) (bs : List ℕ) (v : A) → Then R (λ v. If (P v) (Is v) Never) i bs v → Such P R i bs v
   such-to i bs v (then r (so h is)) = rw append-nil (such_of h r)
+  such-to i _ v (then {bs = bs} {cs = cs} r (else _ never)) = elim never [ ]
 
   such-from : (i : ℕ) (bs : List ℕ) (v : A) → Such P R i bs v → Then R (λ v. If (P v) (Is v) Never) i bs v
   such-from i bs v (such_of h r) =

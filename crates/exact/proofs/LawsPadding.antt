@@ -27,6 +27,7 @@ literal-is i bs v literal_of = is
 then-literal : (b : ℕ) (s : List ℕ) (i : ℕ) (bs : List ℕ) (v : Unit {0}) → Then One (λ x. If (x ≡ b) (Literal s) Never) i bs v →
     Literal (b ∷ s) i bs v
 then-literal b s i bs v (then one (so e literal_of)) = rw e literal_of
+then-literal b s i _ v (then {cs = cs} {w = w} one (else _ never)) = elim never [ ]
 
 literal-then : (b : ℕ) (s : List ℕ) (i : ℕ) (bs : List ℕ) (v : Unit {0}) → Literal (b ∷ s) i bs v →
     Then One (λ x. If (x ≡ b) (Literal s) Never) i bs v

@@ -16,7 +16,11 @@ module _ {A : Type 0} {R : Lang A} where
   many-then n i bs ws (cons r m) = then r (of m)
 
   then_many : (n i : ℕ) (bs : List ℕ) (ws : List A) → Then R (λ v. Of (λ vs. v ∷ vs) (Many R n)) i bs ws → Many R (suc n) i bs ws
-  then_many n i bs ws (then r (of m)) = cons r m
+  then_many n i bs ws (then {v = v} r o) = held v r ws o
+    where
+      held : {cs ds : List ℕ} (v : A) → R i cs v → (vs : List A) → Of (λ us. v ∷ us) (Many R n) (i + length cs) ds vs →
+          Many R (suc n) i (cs ++ ds) vs
+      held v r vs (of m) = cons r m
 
   is-many : (i : ℕ) (bs : List ℕ) (ws : List A) → Is [] i bs ws → Many R zero i bs ws
   is-many i bs ws is = nil
@@ -42,10 +46,14 @@ counted-to {C = C} i bs vs (then {bs = c} {cs = b} {v = n} s m) =
     let q : n ≡ length vs = many-length n _ b vs m in
     counted_of (subst (C i c) q s) (rw q at m)
 
+counted-from : {A : Type 0} {C : Lang ℕ} {R : Lang A} (i : ℕ) (bs : List ℕ) (vs : List A) → Counted C R i bs vs →
+    Then C (λ n. Many R n) i bs vs
+counted-from i _ vs (counted_of s m) = then s m
+
 -- A count and as many values are read exactly.
 pub counted-exact : {A : Type 0} {q : Parser ℕ} {C : Lang ℕ} {p : Parser A} {R : Lang A} → Exact q C → Exact p R →
     Exact (counted q p) (Counted C R)
 unfolding counted
 counted-exact y x =
     same-exact (bind-exact y (λ n. times-exact n x))
-    (λ i bs vs. (counted-to i bs vs, λ c. elim c [ counted_of s m ↦ then s m ]))
+    (λ i bs vs. (counted-to i bs vs, counted-from i bs vs))

@@ -17,7 +17,7 @@ const F64_IMPLIED: u64 = 0x10_0000_0000_0000;
 const F64_BIAS: u64 = 1023;
 
 // sign:1, exp:4, man:3. No infinities: only all ones are NaN.
-#[derive(Drop)]
+#[derive(Clone, Copy)]
 pub struct F8E4M3FN {}
 
 impl F8E4M3FN {
@@ -29,7 +29,7 @@ impl F8E4M3FN {
 }
 
 // sign:1, exp:5, man:2. IEEE-like, with infinities.
-#[derive(Drop)]
+#[derive(Clone, Copy)]
 pub struct F8E5M2 {}
 
 impl F8E5M2 {

@@ -12,7 +12,7 @@ use crate::put::{put_le, put_varint};
 use enums::VersionClass;
 
 // How far the writer is: the next word of the sheet, the next byte of the pool, the next place of the output.
-#[derive(Drop)]
+#[derive(Clone, Copy)]
 pub struct Pen {
     pub word: usize,
     pub run: usize,
@@ -20,7 +20,7 @@ pub struct Pen {
 }
 
 // How a number stands in the file.
-#[derive(Drop)]
+#[derive(Clone, Copy)]
 pub enum Number {
     Varint,
     Byte,

@@ -20,7 +20,7 @@ use enums::Refusal;
 use judge::SheetJudged;
 
 // The length of the image, or a refusal's number; all writing is stage 10.
-#[derive(Drop)]
+#[derive(Clone, Copy)]
 pub enum Imaged {
     Bytes(usize),
     Refused(u8),

@@ -11,7 +11,7 @@ use crate::types::put_type;
 use enums::{DebugTag, VersionClass};
 
 // The kinds of rows. Strings and constants are runs of the pool.
-#[derive(Drop)]
+#[derive(Clone, Copy)]
 pub enum Row {
     Run,
     Type,
@@ -23,7 +23,7 @@ pub enum Row {
 
 // A table of the sheet: its kind of rows, its first word, its row count; and the width of a start in the file, to which
 // the starts are aligned as well. A table without starts has 0.
-#[derive(Drop)]
+#[derive(Clone, Copy)]
 pub struct Table {
     pub row: Row,
     pub word: usize,

@@ -15,7 +15,7 @@ use crate::tables::{put_count, put_list_starts, put_table};
 use enums::VersionClass;
 
 // The sections, in the order in which they are written.
-#[derive(Drop)]
+#[derive(Clone, Copy)]
 pub enum Section {
     String,
     Producer,

@@ -12,21 +12,21 @@ use crate::rows::{Row, Table, put_row, put_rows};
 use enums::{BytePosition, IdPosition, VersionClass};
 
 // An entry of a table whose starts count bytes: its first word of the sheet, and where it begins in the data.
-#[derive(Drop)]
+#[derive(Clone, Copy)]
 pub struct Entry {
     pub word: usize,
     pub start: BytePosition,
 }
 
 // A debug list: its first word of the sheet, and where its ids begin among those of all lists.
-#[derive(Drop)]
+#[derive(Clone, Copy)]
 pub struct ListEntry {
     pub word: usize,
     pub start: IdPosition,
 }
 
 // How far the starts of lists are put: behind the ids of the last list, and at the next place.
-#[derive(Drop)]
+#[derive(Clone, Copy)]
 pub struct ListStarts {
     pub end: IdPosition,
     pub at: usize,

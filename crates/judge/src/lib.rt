@@ -13,14 +13,14 @@ use enums::{BytecodeVersion, VersionClass};
 use steps::Place;
 
 // What a well-formed sheet tells a writer at once: the class of its version, and the length of its pool.
-#[derive(Drop)]
+#[derive(Clone, Copy)]
 pub struct Judged {
     pub class: VersionClass,
     pub pool: u64,
 }
 
 // A sheet that is not well-formed is refusal 12, which names no place.
-#[derive(Drop)]
+#[derive(Clone, Copy)]
 pub enum SheetJudged {
     Passed(Judged),
     Stop,

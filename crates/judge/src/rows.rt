@@ -13,7 +13,7 @@ use crate::types::judge_type;
 use enums::{DebugTag, FunctionFlag, VersionClass};
 
 // The kinds of rows. A string's row and a constant's are a length.
-#[derive(Drop)]
+#[derive(Clone, Copy)]
 pub enum Rows {
     Lengths,
     Types,

@@ -7,7 +7,7 @@ ghost use Rattle.sheet.specs.Store.{words_in};
 ghost use Rattle.judge.specs.Steps.{value_at, only, kept, all_up_to, between, small_list, optional, spent};
 
 // How far a sheet is judged: the next word, and what the rows so far leave of the pool's length.
-#[derive(Drop)]
+#[derive(Clone, Copy)]
 pub enum Place {
     At { word: usize, left: u64 },
     Stop,

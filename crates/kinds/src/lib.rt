@@ -14,14 +14,14 @@ ghost use Rattle.kinds.specs.Parts.{part_text};
 use text::Pen;
 
 // A part of a row's text without names: before them, or behind them, whose word behind the index is then told.
-#[derive(Drop)]
+#[derive(Clone, Copy)]
 pub enum Part {
     Opening,
     Ending(usize),
 }
 
 // Indices of rows: the word of the first, and how many they are.
-#[derive(Drop)]
+#[derive(Clone, Copy)]
 pub struct Indices {
     pub word: usize,
     pub count: u64,

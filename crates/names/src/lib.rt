@@ -12,7 +12,7 @@ use kinds::Part;
 use text::Pen;
 
 // The length of the name, or a refusal's number; the stage is that of a call.
-#[derive(Drop)]
+#[derive(Clone, Copy)]
 pub enum Named {
     Bytes(usize),
     Refused(u8),

@@ -9,7 +9,7 @@ ghost use Rattle.owners.specs.Notes.{bucket_of, Notes, NewRow, SoFar, Turn};
 use sheet::word_at;
 
 // A row: mark 0 is free, and anything else is taken.
-#[derive(Drop)]
+#[derive(Clone, Copy)]
 struct Row {
     mark: u64,
     instance: u64,
@@ -17,14 +17,14 @@ struct Row {
 }
 
 // What a row is looked for by.
-#[derive(Drop)]
+#[derive(Clone, Copy)]
 enum Wanted {
     Free,
     HeldBy(u64),
 }
 
 // The row that an instance has among good ones, or their number if it has none; or that they are not good.
-#[derive(Drop)]
+#[derive(Clone, Copy)]
 pub enum HeldRow {
     Bad,
     At(usize),

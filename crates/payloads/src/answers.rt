@@ -2,14 +2,14 @@
 use reading::Refused;
 
 // The next word of the sheet, and the next byte of the pool.
-#[derive(Drop)]
+#[derive(Clone, Copy)]
 pub struct Filled {
     pub words: usize,
     pub bytes: usize,
 }
 
 // A table that was read: how many rows it has, and how far the stores are filled with them.
-#[derive(Drop)]
+#[derive(Clone, Copy)]
 pub enum TableRead {
     Got(usize, Filled),
     Stop(Refused),

@@ -26,7 +26,7 @@ use enums::{DebugTag, IdPosition, Refusal};
 use reading::{ByteRead, Reader, Refused};
 
 // How many attributes and lists were read, and how far the stores are filled with them.
-#[derive(Drop)]
+#[derive(Clone, Copy)]
 pub enum DebugRead {
     Got(usize, usize, Filled),
     Stop(Refused),
@@ -133,7 +133,7 @@ fn is_whole(data: &[u8], start: usize, end: usize) -> bool
 
 // The fields of an attribute, taken for numbers of one byte or two: where the last of them ends, how many are longer,
 // and six words, 0 for a field that the attribute does not have.
-#[derive(Drop)]
+#[derive(Clone, Copy)]
 pub struct Shorts {
     pub end: usize,
     pub long: u64,

@@ -14,21 +14,21 @@ use reading::{ByteRead, NumRead, Reader, Refused, U32Read};
 
 // How far an entry is read and its row is filled: the next byte, the next word, and the number that was copied last (of
 // a list its count).
-#[derive(Drop)]
+#[derive(Clone, Copy)]
 pub struct Spot {
     pub pos: usize,
     pub word: usize,
     pub value: u64,
 }
 
-#[derive(Drop)]
+#[derive(Clone, Copy)]
 pub enum SpotRead {
     Got(Spot),
     Stop(Refused),
 }
 
 // How a number stands in an entry.
-#[derive(Drop)]
+#[derive(Clone, Copy)]
 pub enum Number {
     Varint,
     Byte,

@@ -20,13 +20,13 @@ use enums::{Refusal, Stage};
 use pass::fill;
 
 // How many words the sheet of a file has, and how many bytes its pool.
-#[derive(Drop)]
+#[derive(Clone, Copy)]
 pub struct Need {
     pub words: usize,
     pub bytes: usize,
 }
 
-#[derive(Drop)]
+#[derive(Clone, Copy)]
 pub enum FileRead {
     Got(Need),
     Stop(Stopped),

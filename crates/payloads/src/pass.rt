@@ -40,7 +40,7 @@ use enums::{BytecodeVersion, Section, Stage, VersionClass};
 use reading::Refused;
 
 // The tables that have a section of their own, in reading order.
-#[derive(Drop)]
+#[derive(Clone, Copy)]
 pub enum Table {
     Strings,
     Types,
@@ -51,7 +51,7 @@ pub enum Table {
 
 // How far a pass has come: how far the stores are filled, and what the last step found besides: how many rows its table
 // has, or the producer's word.
-#[derive(Drop)]
+#[derive(Clone, Copy)]
 pub enum Pass {
     Got(Filled, u64),
     Stop(Stopped),

@@ -12,76 +12,76 @@ ghost use Rattle.reading.specs.Shown.{got_bytes, got_padding, got_items};
 use enums::{ALIGNMENT_BYTE, Refusal};
 
 // The place in the data where the next read starts.
-#[derive(Drop)]
+#[derive(Clone, Copy)]
 pub struct Reader {
     pub pos: usize,
 }
 
 // A refusal: document 01's number, and the place in the data that it names.
-#[derive(Drop)]
+#[derive(Clone, Copy)]
 pub struct Refused {
     pub no: u8,
     pub at: usize,
 }
 
 // What each read answers: the value and the reader behind it, or a refusal.
-#[derive(Drop)]
+#[derive(Clone, Copy)]
 pub enum ByteRead {
     Got(u8, Reader),
     Stop(Refused),
 }
 
-#[derive(Drop)]
+#[derive(Clone, Copy)]
 pub enum U16Read {
     Got(u16, Reader),
     Stop(Refused),
 }
 
-#[derive(Drop)]
+#[derive(Clone, Copy)]
 pub enum U32Read {
     Got(u32, Reader),
     Stop(Refused),
 }
 
-#[derive(Drop)]
+#[derive(Clone, Copy)]
 pub enum NumRead {
     Got(u64, Reader),
     Stop(Refused),
 }
 
-#[derive(Drop)]
+#[derive(Clone, Copy)]
 pub enum I32Read {
     Got(i32, Reader),
     Stop(Refused),
 }
 
-#[derive(Drop)]
+#[derive(Clone, Copy)]
 pub enum I64Read {
     Got(i64, Reader),
     Stop(Refused),
 }
 
 // The bytes from a place up to the reader, which stay where they are.
-#[derive(Drop)]
+#[derive(Clone, Copy)]
 pub enum BytesRead {
     Got(usize, Reader),
     Stop(Refused),
 }
 
-#[derive(Drop)]
+#[derive(Clone, Copy)]
 pub enum PaddingRead {
     Got(Reader),
     Stop(Refused),
 }
 
 // The numbers of a counted array: how many, and the place of the first one.
-#[derive(Drop)]
+#[derive(Clone, Copy)]
 pub struct Items {
     pub count: usize,
     pub start: usize,
 }
 
-#[derive(Drop)]
+#[derive(Clone, Copy)]
 pub enum ItemsRead {
     Got(Items, Reader),
     Stop(Refused),

@@ -7,7 +7,7 @@ ghost use Rattle.text.specs.Text.{Put};
 ghost use Rattle.text.specs.declared.Pen.TheVariants.{At};
 
 // Where the next byte is put; or how much room is left, where nothing is put; `Full` where some text had no room.
-#[derive(Drop)]
+#[derive(Clone, Copy)]
 pub enum Pen {
     At(usize),
     Counting(usize),

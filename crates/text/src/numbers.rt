@@ -9,7 +9,7 @@ ghost use Rattle.text.specs.Numbers.{number_text, separated, between};
 use crate::{Pen, put_byte, put_text};
 
 // How a number of a list stands in its word, and whether it may be dynamic.
-#[derive(Drop)]
+#[derive(Clone, Copy)]
 pub enum Number {
     I32,
     I64,

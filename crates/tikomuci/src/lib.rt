@@ -52,7 +52,7 @@ const SESSION_SLOTS: usize = 64;
 
 // What every call that can be refused answers.
 #[repr(C)]
-#[derive(Drop)]
+#[derive(Clone, Copy)]
 pub struct Answer {
     // 0, or document 01's number
     pub refusal: u64,

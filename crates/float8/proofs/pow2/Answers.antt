@@ -4,16 +4,9 @@ use Prim.Native.Nat.{ℕ, ◌%◌, ◌^◌}
 use native.Mathlib.Nat.{one-mul, mod-eq_of_lt}
 use lib.Pow.{pow-lt}
 use borrow.Author.Rules.{rules}
-use Rattle.float8.proofs.pow2.Statement.{statement}
-use Rattle.float8.proofs.pow2.Tie as tie
+use Rattle.float8.proofs.pow2.Goals as goal
 
-shl-result : tie.Need-overflow-shl-result
-shl-result c = search rules
-
-returns : tie.Need-returns
+pub returns : goal.returns
 returns c =
     let e = c.args.exponent in
     ap (λ (z : ℕ). z % 2 ^ 64) (one-mul (2 ^ e)) ∙ mod-eq_of_lt (pow-lt {i = e} {j = 64} c.requires)
-
-pub pow2-spec : {M : Type 1} → statement M
-pow2-spec = tie.close (tie.spec shl-result returns)
