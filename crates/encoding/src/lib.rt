@@ -1,5 +1,7 @@
 // encoding.rs over a lent slice: the writer is a place and the alignment asked for so far, handed on by value. Whether
 // the bytes have room is judged before the first of them is written, so a refused call changes nothing.
+#![tactic(auto)]
+
 ghost use Rattle.std.specs.Prelude.{◌≡◌, [], ◌∷◌, map, ◌+◌, ◌*◌, ◌≤◌, ◌<◌, length, replicate};
 ghost use Rattle.exact.specs.Fixed.{bytes_of};
 ghost use Rattle.exact.specs.Padding.{gap};
