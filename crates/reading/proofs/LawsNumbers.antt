@@ -33,6 +33,7 @@ Last = Then One (λ b. If (b < 128) (Is (b % 2)) Never)
 
 last-to : (i : ℕ) (bs : List ℕ) (v : ℕ) → Last i bs v → Digits zero bs v
 last-to i bs v (then one (so h is)) = tenth h
+last-to i _ v (then {cs = cs} (one {b = b}) (else _ never)) = elim never [ ]
 
 last-from : (i : ℕ) (bs : List ℕ) (v : ℕ) → Digits zero bs v → Last i bs v
 last-from i bs v (tenth h) = then one (so h is)

@@ -1,0 +1,13 @@
+-- `skip_padding` answers the place behind the padding: its loop follows the bytes still to come (`Skip`). Assumes nothing.
+use Prim.Native.Nat.{◌<◌}
+use native.Mathlib.Nat.{mod-lt, le_of_lt}
+use native.Mathlib.Omega.{arith}
+use Rattle.reading.proofs.LawsSkip.{Skip, skip-none, skip-start, skip-done, skip-short, skip-wrong, skip-more}
+use borrow.Author.Rules.{rules}
+use Rattle.reading.proofs.Reader.skip_padding.Given as goal
+
+abbrev pub invariant-loop-padding : goal.invariant-loop-padding
+invariant-loop-padding l = Skip l.data l.alignment l.at l.i l.padding
+
+abbrev pub decreases-loop-padding : goal.decreases-loop-padding
+decreases-loop-padding l = l.padding
