@@ -77,9 +77,14 @@ AlignedBy first i bs u = Alignment first i bs
 abbrev AlignmentChain : ℕ → Lang (Unit {0})
 AlignmentChain first = If (first < 128) (Is tt) (Then Number (λ a. Pad P a))
 
+aligned-by : (first i : ℕ) (bs : List ℕ) (a : ℕ) (cs : List ℕ) (u : Unit {0}) → 128 ≤ first → Number i bs a →
+    Pad P a (i + length bs) cs u → Alignment first i (bs ++ cs)
+aligned-by first i bs a _ u k s literal_of = aligned k s
+
 to-alignment : (first i : ℕ) (bs : List ℕ) (u : Unit {0}) → AlignmentChain first i bs u → Alignment first i bs
 to-alignment first i bs u (so h is) = unaligned h
-to-alignment first i bs u (else h (then s literal_of)) = let k : 128 ≤ first = omega arith in aligned k s
+to-alignment first i _ u (else h (then {bs = bs} {cs = cs} {v = a} s p)) =
+    let k : 128 ≤ first = omega arith in aligned-by first i bs a cs u k s p
 
 of-alignment : (first i : ℕ) (bs : List ℕ) (u : Unit {0}) → Alignment first i bs → AlignmentChain first i bs u
 of-alignment first i bs u (unaligned h) = so h is

@@ -10,7 +10,7 @@ use Rattle.exact.specs.Got.{got, follow}
 use Rattle.exact.specs.Exact.{Lang, Ends}
 use Rattle.exact.specs.Basic.{One, one, Never}
 use Rattle.exact.specs.Sequence.{bind, Then, then, Of, of}
-use Rattle.exact.specs.Choice.{If, so}
+use Rattle.exact.specs.Choice.{If, so, else}
 use Rattle.exact.specs.Repeat.{Many}
 use Rattle.exact.specs.Tiling.{Tiled, cuts}
 use Rattle.exact.specs.Upto.{Upto, upto_of}
@@ -40,6 +40,7 @@ Tagged = Then One (λ t. If (t < length field_counts) (Of (attribute_of t) (Many
 
 to-attribute : (i : ℕ) (bs : List ℕ) (v : Attribute) → Upto Tagged i bs v → AttributeEntry i bs v
 to-attribute i bs v (upto_of left (then one (so h (of m)))) = attribute left h m
+to-attribute i _ v (upto_of left (then {cs = cs} (one {b = b}) (else _ never))) = elim never [ ]
 
 of-attribute : (i : ℕ) (bs : List ℕ) (v : Attribute) → AttributeEntry i bs v → Upto Tagged i bs v
 of-attribute i bs v (attribute {bs = b} left h m) = upto_of left (then one (so h (of m)))

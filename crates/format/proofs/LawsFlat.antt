@@ -7,7 +7,7 @@ use lib.ListN.{length}
 use Rattle.exact.specs.Exact.{Parser, Exact}
 use Rattle.exact.specs.Basic.{One, one, Is, is, Never}
 use Rattle.exact.specs.Sequence.{Then, then}
-use Rattle.exact.specs.Choice.{If, so}
+use Rattle.exact.specs.Choice.{If, so, else}
 use Rattle.exact.specs.Repeat.{Many, nil, cons, Counted, counted_of}
 use Rattle.exact.specs.Tiling.{join}
 use Rattle.exact.proofs.LawsExact.{same-exact}
@@ -82,6 +82,7 @@ module _ {A : Type 0} {f : A → List ℕ} {P : A → Type 0} where
       Then (λ i. If (i ≡ start) (Is (tt {0})) Never i) (λ u. Many (Flat f P) count) i ws vs → TableOf f P start count i ws vs
   table_to start count i ws vs (then {cs = c} (so e is) m) =
       let h = rows-inv count _ c vs m in rw h.0 (table_of e h.1 h.2)
+  table_to start count i _ vs (then {bs = bs} {cs = c} {v = v} (else _ never) m) = elim never [ ]
 
   table-from : (start count i : ℕ) (ws : List ℕ) (vs : List A) → TableOf f P start count i ws vs →
       Then (λ i. If (i ≡ start) (Is (tt {0})) Never i) (λ u. Many (Flat f P) count) i ws vs

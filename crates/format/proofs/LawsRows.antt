@@ -9,7 +9,7 @@ use lib.ListN.{length}
 use Rattle.exact.specs.Exact.{Lang, Exact, Ends}
 use Rattle.exact.specs.Basic.{One, one, Never}
 use Rattle.exact.specs.Sequence.{Then, then, Of, of}
-use Rattle.exact.specs.Choice.{If, so}
+use Rattle.exact.specs.Choice.{If, so, else}
 use Rattle.exact.specs.Fixed.{Raw, raw_of}
 use Rattle.exact.specs.Upto.{At, at}
 use Rattle.exact.proofs.LawsExact.{same-exact}
@@ -72,6 +72,7 @@ FunctionChain o =
 to_function : (o i : ℕ) (bs : List ℕ) (v : Located Function) → FunctionChain o i bs v → FunctionRow o i bs v
 to_function o i bs v (then n (then s (then at (then one (then l (so h (then m (then at (of (raw_of e)))))))))) =
     rw add-zero (function n s h l (rw (← e) at m))
+to_function o i _ v (then n (then s (then at (then (one {b = b}) (then {cs = cs} {v = w} l (else _ never)))))) = elim never [ ]
 
 of_function : (o i : ℕ) (bs : List ℕ) (v : Located Function) → FunctionRow o i bs v → FunctionChain o i bs v
 of_function o i bs v (function {name_bytes = a} {signature_bytes = b} {location_bytes = d} {length_bytes = e} {body = y} {name = u} {signature = w}

@@ -140,6 +140,8 @@ fields-to i ws r (then one (else n (else n₁ (else n₂ (else n₃ (else n₄ (
     rw e (flat tt)
 fields-to i ws r (then one (else n (else n₁ (else n₂ (else n₃ (else n₄ (else n₅ (else n₆ (so e (then (flat u) (of (flat w)))))))))))) =
     rw e (flat tt)
+fields-to i _ r (then {cs = cs} (one {b = b}) (else n (else n₁ (else n₂ (else n₃ (else n₄ (else n₅ (else n₆ (else _ never))))))))) =
+    elim never [ ]
 
 -- A question whose test says no does not hold.
 abbrev SaysNo : {P : Type 0} → Dec P → Type 0

@@ -171,7 +171,7 @@ functions-fitted fs s =
           all_map (λ r. All (Fits 64) (function_words r)) function_row_of fs
           (all_then GoodFunction (λ f. All (Fits 64) (function_words (function_row_of f))) (λ f g. g.words) fs s.each);
       count = rw length-map s.count;
-      size = rw map-map s.size;
+      size = rw (map-map function_words function_row_of fs) s.size;
     }
 
 pool-fits : (t : Tables) → Found t → Fits 64 (pool_length (frame_of t))
