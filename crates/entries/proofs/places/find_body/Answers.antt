@@ -1,0 +1,57 @@
+-- `find_body` passes over all functions, and keeps where the body asked for stands. Assumes nothing.
+use mathlib.Core.Path.{◌≡◌, sym, ap}
+use mathlib.Core.Logic.{⊎_elim}
+use Prim.Native.Nat.{suc, ◌+◌, ◌-◌, ◌≤◌}
+use native.Mathlib.Omega.{arith}
+use lib.ListN.{length}
+use Rattle.entries.specs.Places.{bodies_from}
+use Rattle.entries.proofs.LawsRows.{function-in, func-told}
+use Rattle.entries.proofs.LawsPlaces.{Seeking, seek-none, seek_stop, seek-end, seek-here, seek-past, bodies-none, bodies-stop, bodies-more}
+use borrow.Author.Rules.{rules}
+use Rattle.entries.proofs.places.find_body.Goals as goal
+
+pub loop-i-init : goal.loop-i-init
+loop-i-init c =
+    let z : c.args.count - 0 ≡ c.args.count = omega arith in
+    (seek-none _ _ _ _ (λ o. ap (λ m. bodies_from o m c.args.payload.now c.args.first.pos) (sym z)), c.requires, omega arith)
+
+pub returns-in-Stop : goal.returns-in-Stop
+returns-in-Stop c =
+    let l = c.loop-i in
+    let t = c.loop-i-test.true in
+    let m : c.args.count - l.i ≡ suc (c.args.count - (l.i + 1)) = omega arith in
+    let e = func-told _ _ c.in-Stop.is c.read_func.ensures in
+    seek_stop _ _ _ _ _ _ l.invariant.0 _ (bodies-stop _ _ _ _ _ _ m e)
+
+pub overflow_sub-found : goal.overflow_sub-found
+overflow_sub-found c =
+    let l = c.loop-i.invariant in
+    let e = func-told _ _ c.in-Got.is c.read_func.ensures in
+    omega (arith, (function-in _ _ _ _ l.1 (e 0)).1)
+
+pub overflow_add-i : goal.overflow_add-i
+overflow_add-i c = omega (arith, c.loop-i-test.true)
+
+pub loop-i-smaller : goal.loop-i-smaller
+loop-i-smaller c = omega (arith, c.loop-i-test.true)
+
+pub loop-i-preserved : goal.loop-i-preserved
+loop-i-preserved c =
+    let l = c.loop-i in
+    let t = c.loop-i-test.true in
+    let m : c.args.count - l.i ≡ suc (c.args.count - (l.i + 1)) = omega arith in
+    let e = func-told _ _ c.in-Got.is c.read_func.ensures in
+    let q = function-in _ _ _ _ l.invariant.1 (e 0) in
+    let b = bodies-more _ _ _ _ _ _ m e in (
+      ⊎_elim
+          (λ w. seek-here _ _ _ _ _ _ l.invariant.0 _ _ _ b (sym w.0.taken) _ (omega (arith, q.1)) _ w.3)
+          (λ w. seek-past _ _ _ _ _ _ l.invariant.0 _ _ _ b (λ h. w.0.left (sym h)) _ w.1)
+          c.if-i-n.branch,
+      q.2,
+      omega arith,
+    )
+
+pub returns : goal.returns
+returns c =
+    let l = c.loop-i in
+    seek-end _ _ _ _ _ _ l.invariant.0 (bodies-none _ _ _ (omega (arith, c.loop-i-test.false)))
