@@ -11,6 +11,7 @@ use Rattle.exact.specs.Got.{Got, got, stop}
 use Rattle.exact.specs.Choice.{choose}
 use Rattle.exact.proofs.LawsChoice.{choose_yes, choose_no}
 use Rattle.enums.specs.Refusals as refusals
+use Rattle.reading.specs.declared.Reader.{Reader}
 use Rattle.reading.specs.declared.Refused.{Refused}
 use Rattle.format.specs.Tables.{Version}
 use Rattle.format.specs.Sections.{Section}
@@ -36,10 +37,10 @@ raw-stop r (got ss j) x e w = absurd (let z : ◌≡◌ {A = ℕ} 0 1 = cc (ap (
 raw-stop r (stop c k) x e w = cc (ap (λ q. q.walked) e)
 
 -- .. or, which is the first of the two ways to end, sections and their places.
-pub raw-end : (r : RawSections) (g : Got (List Section)) → r ≡ raw_sections g → tag_of walked-type r.walked ≡ 0 →
+pub raw-end : (r : RawSections) (g : Got (List Section)) (x : Reader) → r ≡ raw_sections g → r.walked ≡ walk.End x →
     (ss : List Section) × (k : ℕ) × (g ≡ got ss k) × (r.places ≡ held_places ss)
-raw-end r (got ss j) e w = (ss, j, refl, ap (λ q. q.places) e)
-raw-end r (stop c k) e w = absurd (omega (arith, ap (λ q. tag_of walked-type q.walked) e))
+raw-end r (got ss j) x e w = (ss, j, refl, ap (λ q. q.places) e)
+raw-end r (stop c k) x e w = absurd (let z : ◌≡◌ {A = ℕ} 0 1 = cc (ap (λ q. q.walked) e) in omega arith)
 
 module _ (file : List ℕ) where
   -- A file over the limit is refused ..
@@ -72,10 +73,10 @@ held-stop r (accepted o) x e w = absurd (let z : ◌≡◌ {A = ℕ} 0 1 = cc (a
 held-stop r (refused c n i) x e w = cc (ap (λ q. q.judged) e)
 
 -- .. or, which is the first of the two judgements, an opened file, its version and its places.
-pub held-passed : (r : Held) (g : Read Opened) → r ≡ held_container g → tag_of judged-type r.judged ≡ 0 →
+pub held-passed : (r : Held) (g : Read Opened) → r ≡ held_container g → r.judged ≡ judged.Passed →
     (x : Opened) × (g ≡ accepted x) × (r.version ≡ held_version x.version) × (r.places ≡ held_places x.sections)
 held-passed r (accepted o) e w = (o, refl, ap (λ q. q.version) e, ap (λ q. q.places) e)
-held-passed r (refused c n i) e w = absurd (omega (arith, ap (λ q. tag_of judged-type q.judged) e))
+held-passed r (refused c n i) e w = absurd (let z : ◌≡◌ {A = ℕ} 0 1 = cc (ap (λ q. q.judged) e) in omega arith)
 
 -- Header and walk, and then k.
 abbrev staged : {A : Type 0} → (Version → List Section → Read A) → List ℕ → Got Version → Read A

@@ -13,7 +13,7 @@ returns-then-not-place c =
     let id = c.args.id in
     let (x, o, version, places) = held-passed _ _ c.read_container-container.ensures c.in-Passed.is in
     let place = c.get-place.ensures ∙ ap (λ z. get_or z id nowhere) places in
-    section-post _ _ _ (view-absent _ _ x o _ place c.if-not-place.true)
+    section-post _ _ _ (view-absent _ _ x o _ place (not-true _ c.if-not-place.true))
 
 pub returns-in-Stop : goal.returns-in-Stop
 returns-in-Stop c =
@@ -25,4 +25,4 @@ returns-else-not-place c =
     let id = c.args.id in
     let (x, o, version, places) = held-passed _ _ c.read_container-container.ensures c.in-Passed.is in
     let place = c.get-place.ensures ∙ ap (λ z. get_or z id nowhere) places in
-    section-post _ _ _ (view-there _ _ x o _ place c.if-not-place.false)
+    section-post _ _ _ (view-there _ _ x o _ place (not-false _ c.if-not-place.false))

@@ -27,5 +27,5 @@ returns-in-Stop-walked c =
 pub returns-in-End : goal.returns-in-End
 returns-in-End c =
     let header = told-version c.in-Got.is c.read_header.ensures in
-    let (ss, k, sections, places) = raw-end _ _ c.read_sections-raw.ensures c.in-End.is in
+    let (ss, k, sections, places) = raw-end _ _ _ c.read_sections-raw.ensures c.in-End.is in
     rw (places, opened-got _ c.if-file-gt-MOST_BYTES.false _ _ header ss k sections)
