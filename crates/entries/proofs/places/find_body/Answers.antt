@@ -9,6 +9,7 @@ use Rattle.entries.proofs.LawsRows.{function-in, func-told}
 use Rattle.entries.proofs.LawsPlaces.{Seeking, seek-none, seek_stop, seek-end, seek-here, seek-past, bodies-none, bodies-stop, bodies-more}
 use borrow.Author.Rules.{rules}
 use Rattle.entries.proofs.places.find_body.Goals as goal
+use Rattle.entries.proofs.places.find_body.Goals.{then-i-n, else-i-n}
 
 pub loop-i-init : goal.loop-i-init
 loop-i-init c =
@@ -43,10 +44,10 @@ loop-i-preserved c =
     let e = func-told _ _ c.in-Got.is c.read_func.ensures in
     let q = function-in _ _ _ _ l.invariant.1 (e 0) in
     let b = bodies-more _ _ _ _ _ _ m e in (
-      ⊎_elim
-          (λ w. seek-here _ _ _ _ _ _ l.invariant.0 _ _ _ b (sym w.0.taken) _ (omega (arith, q.1)) _ w.3)
-          (λ w. seek-past _ _ _ _ _ _ l.invariant.0 _ _ _ b (λ h. w.0.left (sym h)) _ w.1)
-          c.if-i-n.branch,
+      elim c.if-i-n.branch [
+        then-i-n w ↦ seek-here _ _ _ _ _ _ l.invariant.0 _ _ _ b (sym w.if-i-n.true) _ (omega (arith, q.1)) _ w.found-is
+        | else-i-n w ↦ seek-past _ _ _ _ _ _ l.invariant.0 _ _ _ b (λ h. w.if-i-n.false (sym h)) _ w.found-is
+      ],
       q.2,
       omega arith,
     )

@@ -13,6 +13,7 @@ use Rattle.entries.proofs.LawsEntries.{Before, before-next}
 use Rattle.entries.proofs.LawsPlaces.{Seeking, seek-entries, seek_stop, seek-end, seek-here, seek-past, rows_left, rows_none, rows-bad, rows-good}
 use borrow.Author.Rules.{rules}
 use Rattle.entries.proofs.places.find_entry.Goals as goal
+use Rattle.entries.proofs.places.find_entry.Goals.{then-i-n, else-i-n}
 
 pub loop-i-init : goal.loop-i-init
 loop-i-init c =
@@ -60,10 +61,10 @@ loop-i-preserved c =
     let x = length-slice l.from.start.0 end (drop c.args.starts.«data» c.args.payload.now) (omega arith) in
     let r = rows-good _ _ _ _ some _ (sym d) _ _ _ _ m l.invariant.0 _ _ e in (
       (before-next _ _ _ some _ _ _ _ _ _ m l.invariant.0 f).0,
-      ⊎_elim
-          (λ w. seek-here _ _ _ _ _ _ l.invariant.1 _ _ _ r (sym w.0.taken) _ (sym x) _ w.2)
-          (λ w. seek-past _ _ _ _ _ _ l.invariant.1 _ _ _ r (λ h. w.0.left (sym h)) _ w.1)
-          c.if-i-n.branch,
+      elim c.if-i-n.branch [
+        then-i-n w ↦ seek-here _ _ _ _ _ _ l.invariant.1 _ _ _ r (sym w.if-i-n.true) _ (sym x) _ w.found-is
+        | else-i-n w ↦ seek-past _ _ _ _ _ _ l.invariant.1 _ _ _ r (λ h. w.if-i-n.false (sym h)) _ w.found-is
+      ],
       omega arith,
     )
 

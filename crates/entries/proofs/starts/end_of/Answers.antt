@@ -6,6 +6,7 @@ use borrow.Author.Tests.{ltb-true, ltb-false}
 use Rattle.entries.proofs.LawsStarts.{end-outside, end_short, end-good, end_none, end_empty}
 use borrow.Author.Rules.{rules}
 use Rattle.entries.proofs.starts.end_of.Goals as goal
+use Rattle.entries.proofs.starts.end_of.Goals.{then-end-start-2-via-then-end-start-2, then-end-start-2-via-else-end-start-2+then-least-gt0}
 
 pub returns-then-size-end : goal.returns-then-size-end
 returns-then-size-end c =
@@ -15,8 +16,12 @@ returns-then-size-end c =
 pub returns-then-end-start-2 : goal.returns-then-end-start-2
 returns-then-end-start-2 c =
     let e = c.number_or-end.ensures in
-    let none = ⊎_elim (λ w. inl w.taken) (λ w. inr (ltb-true _ _ w.1.taken)) c.then-end-start-2.branch in
-    c.out_of_bounds-then-end-start-2.ensures ∙ end_none _ _ _ _ _ _ _ _ e c.if-end-start.true none
+    c.out_of_bounds-then-end-start-2.ensures ∙
+    end_none _ _ _ _ _ _ _ _ e c.if-end-start.true
+    (elim c.then-end-start-2.branch [
+      then-end-start-2-via-then-end-start-2 w ↦ inl w.if-end-start-2.true
+      | then-end-start-2-via-else-end-start-2+then-least-gt0 w ↦ inr w.if-least-gt0.true
+    ])
 
 pub returns-then-end-start-3 : goal.returns-then-end-start-3
 returns-then-end-start-3 c =
