@@ -209,6 +209,7 @@ module _ (d : List ℕ) (s z : ℕ) (inside : z ≤ length d) (bytes : (i : ℕ)
       (vs : List ℕ) × (j : ℕ) × (times n varint_at entry_in (i - s) ≡ got vs j) × ((shorts d i n m).words ≡ vs ++ replicate (m - n) 0)
   unfolding shorts times bind mapped pure follow
   shorts-read zero m i h p q l = let o : m - 0 ≡ m = omega arith in ([], i - s, refl, rw o (no_words d m i))
+  shorts-read (suc n) zero i h p q l = absurd (omega arith)
   shorts-read (suc n) (suc m) i h p q l =
       let k : ℕ = i + (1 + get_or d i 0 / 128) in
       let (vs, j, e, f) = shorts-read n m k (omega arith) (omega arith) q (omega (arith, l)) in

@@ -37,6 +37,7 @@ use Rattle.format.proofs.LawsSoundWords.{ones-length}
 use Rattle.container.specs.declared.sections.SectionPlace.{SectionPlace}
 use Rattle.payloads.specs.Fill.{Rows}
 use Rattle.payloads.specs.Tables.{run_rows, filling}
+use Rattle.format.specs.Sheet.{function_row_of, function_words}
 use Rattle.payloads.specs.Rows.{global_rows, bodied, function_rows}
 use Rattle.payloads.specs.TypeRows.{type_rows}
 use Rattle.payloads.specs.DebugRows.{debug_words}
@@ -112,7 +113,7 @@ table-small Funcs c l v j e b =
     (λ w i g.
     let r : Functions 0 0 l w = ((functions-ends 0).sound l 0 w i g).0 in
     let s = (functions-sized 0 (length l) l w r b (omega arith)).0.size in
-    (rw map-map s, functions-within 0 0 l w r)) v j e
+    (rw (map-map function_words function_row_of w.values) s, functions-within 0 0 l w r)) v j e
 
 -- What is read of Debug's payload: both its tables are small, ..
 pub debug-small : (l : List ℕ) (t : DebugTables) (j : ℕ) → debug_at l 0 ≡ got t j → All (Fits 8) l →

@@ -1,0 +1,33 @@
+-- `number_of` takes the highest byte first: after each turn it has the number that the bytes from there on are.
+-- Assumes nothing.
+use Prim.Native.Nat.{◌+◌, ◌-◌, ◌*◌}
+use native.Mathlib.Omega.{arith}
+use lib.ListN.{get_or}
+use Rattle.payloads.proofs.LawsArrays.{Tail, tail-end, tail-next, tail-fits, tail-room, tail_all}
+use borrow.Author.Rules.{rules}
+use Rattle.payloads.proofs.fields.number_of.Goals as goal
+
+pub loop-i-init : goal.loop-i-init
+loop-i-init c = tail-end _
+
+pub overflow_mul-value : goal.overflow_mul-value
+overflow_mul-value c = omega (arith, tail-room _ _ _ c.loop-i.invariant c.requires c.loop-i-test.true)
+
+pub bounds-run-i : goal.bounds-run-i
+bounds-run-i c = omega (arith, c.loop-i.invariant.low, c.loop-i-test.true)
+
+pub overflow_cast-value : goal.overflow_cast-value
+overflow_cast-value c = omega (arith, c.type_inv.run (c.loop-i.i - 1))
+
+pub overflow_add-value : goal.overflow_add-value
+overflow_add-value c =
+    let next = tail-next _ _ _ c.loop-i.invariant c.loop-i-test.true (omega (arith, c.type_inv.run (c.loop-i.i - 1))) in
+    omega (arith, tail-fits _ _ _ next c.requires)
+
+pub loop-i-preserved : goal.loop-i-preserved
+-- The number with one byte more.
+loop-i-preserved c =
+    tail-next _ _ _ c.loop-i.invariant c.loop-i-test.true (omega (arith, c.type_inv.run (c.loop-i.i - 1)))
+
+pub returns : goal.returns
+returns c = tail_all _ _ _ c.loop-i.invariant c.loop-i-test.false

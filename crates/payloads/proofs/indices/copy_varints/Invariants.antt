@@ -1,0 +1,22 @@
+-- `copy_varints` copies as many varints as are asked for: whatever copying the rest leaves, copying them all leaves it.
+-- Assumes nothing.
+use mathlib.Core.Path.{◌≡◌, refl, ◌∙◌}
+use Prim.Native.Nat.{ℕ, ◌+◌, ◌≤◌}
+use native.Mathlib.Omega.{arith}
+use mathlib.Core.List.{List}
+use lib.ListN.{length}
+use Rattle.payloads.specs.declared.fields.Number.TheVariants.{Varint}
+use Rattle.payloads.specs.declared.fields.SpotRead.{SpotRead}
+use Rattle.payloads.specs.Fields.{numbers, Put}
+use Rattle.payloads.proofs.LawsIndices.{some-value, some-got, some-stop, some-all, within_more, within-told, within-at}
+use borrow.Author.Rules.{rules}
+use Rattle.payloads.proofs.indices.copy_varints.Given as goal
+
+abbrev pub invariant-loop-left : goal.invariant-loop-left
+invariant-loop-left l =
+    ((sheet' : List ℕ) (r : SpotRead) → Put (numbers l.count l.left Varint l.entry l.next.pos) l.next.word l.sheet sheet' r →
+    Put (numbers l.count l.count Varint l.entry l.initial.next.pos) l.initial.next.word l.initial.sheet sheet' r) ×
+    (length l.sheet ≡ length l.initial.sheet) × (l.next.pos ≤ length l.entry) × (l.next.word + l.initial.next.pos ≤ l.initial.next.word + l.next.pos)
+
+abbrev pub decreases-loop-left : goal.decreases-loop-left
+decreases-loop-left l = l.left

@@ -1,0 +1,6 @@
+-- `measure` is a pass on no stores. Assumes nothing.
+use borrow.Author.Rules.{rules}
+use Rattle.payloads.proofs.measure.Goals as goal
+
+pub returns : goal.returns
+returns c = c.fill.ensures.answer
