@@ -1,5 +1,5 @@
 -- The lists' starts and ids, and the attributes behind them, are the payload of Debug. Assumes nothing.
-use Rattle.std.proofs.Common.{◌≡◌, ℕ, ◌+◌, ◌^◌, ◌<◌, List, [], ◌∷◌, ◌++◌, map, length, get_or, sym, refl, ap, ◌∙◌, subst, ap₂, append_assoc, add-zero, zero-add, arith, length-append}
+use Rattle.std.proofs.Common.{◌≡◌, ℕ, ◌+◌, List, [], ◌∷◌, ◌++◌, map, length, get_or, sym, refl, ap, ◌∙◌, subst, ap₂, append_assoc, add-zero, zero-add, arith, length-append}
 use Rattle.exact.specs.Fixed.{bytes_of}
 use Rattle.exact.specs.Tiling.{join, sums}
 use Rattle.exact.proofs.LawsTiling.{length-sums}

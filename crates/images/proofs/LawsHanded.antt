@@ -6,7 +6,6 @@ use lib.ListN.{length-replicate}
 use Rattle.exact.proofs.LawsChoice.{choose_yes, choose_no}
 use Rattle.enums.specs.Refusals as refusals
 use Rattle.format.specs.Tables.{Tables}
-use Rattle.format.specs.Explains.{class}
 use Rattle.format.specs.Sheet.{pool_length, pool_of}
 use Rattle.format.specs.Sound.{All, Fits}
 use Rattle.format.specs.Judge.{cutting, with_pool, tables_of}

@@ -1,5 +1,5 @@
 -- The writers of payloads put what the tables that the sheet stands for have there. Assumes nothing.
-use Rattle.std.proofs.Common.{◌≡◌, ℕ, ◌+◌, ◌-◌, ◌^◌, ◌<◌, ◌≤◌, List, [], ◌++◌, map, length, get_or, sym, refl, ap, ◌∙◌, subst, ap₂, add-zero, arith}
+use Rattle.std.proofs.Common.{◌≡◌, ℕ, ◌-◌, ◌^◌, ◌<◌, ◌≤◌, List, [], ◌++◌, map, length, get_or, sym, ap, ◌∙◌, subst, ap₂, add-zero, arith}
 use mathlib.Core.Option.{Option, none, some}
 use Rattle.exact.specs.Tiling.{join}
 use Rattle.enums.specs.declared.VersionClass.{VersionClass}
@@ -11,7 +11,7 @@ use Rattle.format.specs.Image.{type_bytes, global_bytes, function_bytes, offset_
 use Rattle.sheet.specs.Store.{words_in}
 use Rattle.images.specs.Put.{Wrote}
 use Rattle.images.specs.Fields.{Copied}
-use Rattle.images.specs.Rows.{RowOf, row_run, row_bytes, Placed, RowsPut}
+use Rattle.images.specs.Rows.{RowOf, row_bytes, Placed, RowsPut}
 use Rattle.images.specs.Tables.{TablePut}
 use Rattle.images.specs.Sections.{Holds, part_in, runs_in, PayloadPut}
 use Rattle.images.specs.declared.fields.Pen.{Pen}

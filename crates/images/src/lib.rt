@@ -1,5 +1,7 @@
 // The image of a handed sheet (document 01, "The sheet", the paragraph "Writer"): the sheet is judged, its image measured,
 // and put section by section. Limits of what is handed are the crate `writer`'s.
+#![tactic(auto)]
+
 mod container;
 mod fields;
 mod judged;

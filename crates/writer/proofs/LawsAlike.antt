@@ -1,6 +1,6 @@
 -- When `image` and `write` answer alike. `write` is lent a pool and an output that `image` does not see. Assumes nothing.
 use mathlib.Core.Path.{◌≡◌, refl, sym, ap, ◌∙◌}
-use Prim.Native.Nat.{ℕ, ◌/◌, ◌≤◌, ◌<◌}
+use Prim.Native.Nat.{ℕ, ◌≤◌, ◌<◌}
 use native.Mathlib.Omega.{arith}
 use native.Mathlib.Decide.{ℕ_discrete, dec_le}
 use mathlib.Core.List.{List}
@@ -15,7 +15,7 @@ use Rattle.format.specs.Sheet.{Frame, pool_length, words_of}
 use Rattle.format.specs.Sound.{All, Fits}
 use Rattle.format.specs.Judge.{cutting, with_pool}
 use Rattle.format.specs.Tests.{both?, all?, fits?}
-use Rattle.format.specs.Write.{Writing, writes, refuses, most_words, imaged, blank}
+use Rattle.format.specs.Write.{Writing, refuses, most_words, imaged, blank}
 use Rattle.format.proofs.LawsPool.{frame-cutting}
 use Rattle.format.proofs.Writes.{Alike, as_long, refused_too, imaged-alike}
 use Rattle.sheet.specs.Store.{words_in}
@@ -25,7 +25,6 @@ use Rattle.images.specs.Written.{not_written, image_size, length_of, in_room}
 use Rattle.images.specs.declared.Imaged.{Imaged}
 use Rattle.images.proofs.LawsHanded.{size_same}
 use Rattle.writer.specs.Written.{writing, writing_alone, WritePost, ImagePost}
-use Rattle.writer.proofs.LawsWriting.{accepted-not-refused, accepted-same}
 
 -- Word 4 of a well-formed sheet is its pool's length.
 word-four : (s : List ℕ) (r : Frame) → judged_bytes s ≡ some r → get_or (words_in s) 4 0 ≡ pool_length r

@@ -1,7 +1,7 @@
 -- `image` answers the length of the image of the tables whose sheet was handed, and keeps its promise; that this allows
 -- one answer only. Assumes nothing.
 use mathlib.Core.Path.{◌≡◌, refl, sym, ap, ◌∙◌, subst}
-use Prim.Native.Nat.{ℕ, ◌/◌, ◌%◌, ◌≤◌, ◌<◌}
+use Prim.Native.Nat.{ℕ, ◌/◌, ◌%◌, ◌≤◌}
 use native.Mathlib.Omega.{arith}
 use native.Mathlib.Decide.{dec_le}
 use mathlib.Core.List.{List}
@@ -13,7 +13,7 @@ use Rattle.enums.specs.Refusals as refusals
 use Rattle.format.specs.Read.{accepted}
 use Rattle.format.specs.Tables.{Tables}
 use Rattle.format.specs.Decode.{most_bytes}
-use Rattle.format.specs.Sheet.{Frame, frame_of, pool_length, words_of, sheet_of}
+use Rattle.format.specs.Sheet.{Frame, frame_of, pool_length, sheet_of}
 use Rattle.format.specs.Sound.{All, Fits, Sound}
 use Rattle.format.specs.Judge.{judged, cutting}
 use Rattle.format.specs.Image.{image}

@@ -27,7 +27,7 @@ use Rattle.sheet.proofs.LawsWords.{length-words_in}
 use Rattle.judge.specs.Judge.{judged_bytes}
 use Rattle.judge.proofs.LawsJudge.{whole_words}
 use Rattle.judge.proofs.LawsPlaced.{judged-words}
-use Rattle.images.specs.Written.{not_written, image_size, length_of, in_room, with_image}
+use Rattle.images.specs.Written.{not_written, image_size, in_room, with_image}
 use Rattle.images.specs.declared.Imaged.{Imaged}
 use Rattle.images.specs.declared.Imaged.TheVariants as told
 use Rattle.images.proofs.LawsHanded.{size_same}

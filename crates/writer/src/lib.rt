@@ -1,5 +1,7 @@
 // The container writer: a handed sheet and its pool are held to their limits (document 01, "Refusal numbers": "1 for
 // sheet and pool"), and their image is made.
+#![tactic(auto)]
+
 ghost use Rattle.writer.specs.Written.{WritePost, ImagePost};
 
 use enums::Refusal;
