@@ -1,6 +1,5 @@
 -- Where the bodies of a sheet stand, and the rows of types among them. Assumes nothing.
 use mathlib.Core.Path.{◌≡◌, refl, sym, ap}
-use Prim.Native.Nat.{◌+◌}
 use mathlib.Core.List.{[], ◌∷◌, ◌++◌, map, append-nil}
 use lib.ListN.{length, get_or, length-map}
 use Rattle.exact.specs.Tiling.{join}

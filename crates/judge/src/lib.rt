@@ -1,5 +1,7 @@
 // The judge of a handed sheet (document 01, "The sheet", the paragraph "Well-formed"). It looks at the words alone:
 // word 4 is compared with the sum of the row lengths, and whoever has the pool compares its length with word 4.
+#![tactic(auto)]
+
 mod rows;
 mod steps;
 mod types;
