@@ -1,5 +1,7 @@
 // The text of a type, by kind, but for the names of other rows (decoder.rs, `decode_type_entry`): what stands before
 // them, where their indices stand in the sheet, and what stands behind them. A row is handed as the word of its tag.
+#![tactic(auto)]
+
 mod endings;
 mod openings;
 

@@ -1,5 +1,7 @@
 // The owner table of a cache: a row of three words for each slot, its mark, its instance and the length of its file. As many
 // rows are looked through as a table has.
+#![tactic(auto)]
+
 ghost use Rattle.std.specs.Prelude.{◌+◌, ◌*◌, ◌≤◌, length, replicate, ◌≡◌};
 ghost use Rattle.encoding.specs.Out.{Tells};
 ghost use Rattle.slots.specs.Lent.{Rows, Once};

@@ -94,9 +94,9 @@ unfolding of_cache put_in
 call-either n s (putting i file) y =
     rw y.stands (either-put (decode file) (dec_le (length file) (slot_size n s.buffer)) (slot_for i y.cache))
 call-either n s (fetching i k) y =
-    inr (rw y.stands (fetch-alone _ i y.cache (cache-once n s y.cache y.stands i) k y.has))
+    inr (rw y.stands (fetch-alone (slot_size n s.buffer) i y.cache (cache-once n s y.cache y.stands i) k y.has))
 call-either n s (dropping i) y =
-    inr (rw y.stands (drop-alone _ i y.cache (cache-once n s y.cache y.stands i) y.has))
+    inr (rw y.stands (drop-alone (slot_size n s.buffer) i y.cache (cache-once n s y.cache y.stands i) y.has))
 
 -- Calls of instance i, which has the file f before them, that are all answered so.
 data Alone (z i : ℕ) : Option (List ℕ) → List Said → Type 0 where
@@ -116,7 +116,8 @@ own_alone : (n i : ℕ) {f : Option (List ℕ)} (s : Lent) (h : List Call) → N
 unfolding own told has choose
 own_alone n i s [] m y = ends
 own_alone n i {f} s (x ∷ h) m y =
-    go (ℕ_discrete (caller x) i) (rw call-size at (own_alone n i (after n s x) h m.1 (call-holds n i s x m.0 y)))
+    go (ℕ_discrete (caller x) i)
+    (rw call-size at (own_alone n i {f = has i f said} (after n s x) h m.1 (call-holds n i s x m.0 y)))
   where
     z : ℕ
     z = slot_size n s.buffer
@@ -160,7 +161,7 @@ alike-alone z i {f} (both_say {x} {y} e a b r) (says p u) (says q v) =
     let w : placeless x.answered ≡ placeless y.answered = same_answer _ _ _ (subst (λ c. Either z f c x.answered) e p) q a b in
     let t : has i f x ≡ has i f y =
     has-placeless i f x ∙ ap₂ (λ c d. has i f (record { call = c; answered = d })) e w ∙ sym (has-placeless i f y) in
-    ap₂ ◌∷◌ w (alike-alone z i r (rw t at u) v)
+    ap₂ ◌∷◌ w (alike-alone z i {f = has i f y} r (rw t at u) v)
 
 -- The theorem.
 pub apart : (n : ℕ) (s s' : Lent) → Empty n s → Empty n s' → slot_size n s.buffer ≡ slot_size n s'.buffer → (h h' : List Call) →

@@ -147,4 +147,5 @@ pub run_holds : (n i : ℕ) {f : Option (List ℕ)} (s : Lent) (h : List Call) �
     Holds n i (last_put i f (told n s h)) (run n s h)
 unfolding run told last_put
 run_holds n i s [] m y = y
-run_holds n i s (x ∷ h) m y = run_holds n i (after n s x) h m.1 (call-holds n i s x m.0 y)
+run_holds n i {f = f} s (x ∷ h) m y =
+    run_holds n i {f = has i f record { call = x; answered = answer n s x }} (after n s x) h m.1 (call-holds n i s x m.0 y)

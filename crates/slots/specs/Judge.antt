@@ -2,7 +2,7 @@
 use Rattle.std.specs.Prelude.{◌≡◌, ℕ, zero, suc, ◌*◌, ◌<◌, List, length}
 use Rattle.std.proofs.Common.{subst, arith}
 use Rattle.std.proofs.Math.Decide.{ℕ_discrete, dec_le, dec_lt, map_dec}
-use Rattle.std.proofs.Math.Logic.{Dec·and, Dec·not}
+use Rattle.std.proofs.Math.Logic.Dec
 use Rattle.slots.specs.Lent.{Lent, Taken, mark_at, instance_at, length_at, slot_size, Rows, Good}
 
 -- What can be told of a premise and of what follows can be told of both.
@@ -32,18 +32,18 @@ is_once : (owners : List ℕ) (k l : ℕ) →
     Dec (Taken owners k → Taken owners l → ¬ (instance_at owners k ≡ instance_at owners l))
 is_once owners k l =
     implied (is_taken owners k)
-    (implied (is_taken owners l) (Dec·not (ℕ_discrete (instance_at owners k) (instance_at owners l))))
+    (implied (is_taken owners l) (Dec.not (ℕ_discrete (instance_at owners k) (instance_at owners l))))
 
 is_rows : (z : ℕ) (owners : List ℕ) (m : ℕ) → Dec (Rows z owners m)
 is_rows z owners m =
     map_dec (λ x. record { fits = x.0; once = λ k l h i. x.1 l i k h }) (λ r. (r.fits, λ l i k h. r.once k l h i))
-    (Dec·and (below (λ k. implied (is_taken owners k) (dec_le (length_at owners k) z)) m)
+    (Dec.and (below (λ k. implied (is_taken owners k) (dec_le (length_at owners k) z)) m)
     (below (λ l. below (λ k. is_once owners k l) l) m))
 
 pub is_good : (n : ℕ) (s : Lent) → Dec (Good n s)
 is_good n s =
     map_dec (λ x. record { slots = x.0; buffer = x.1.0; owners = x.1.1.0; rows = x.1.1.1 })
     (λ g. (g.slots, (g.buffer, (g.owners, g.rows))))
-    (Dec·and (dec_lt 0 n)
-    (Dec·and (ℕ_discrete (length s.buffer) (n * slot_size n s.buffer))
-    (Dec·and (ℕ_discrete (length s.owners) (n * 24)) (is_rows (slot_size n s.buffer) s.owners n))))
+    (Dec.and (dec_lt 0 n)
+    (Dec.and (ℕ_discrete (length s.buffer) (n * slot_size n s.buffer))
+    (Dec.and (ℕ_discrete (length s.owners) (n * 24)) (is_rows (slot_size n s.buffer) s.owners n))))

@@ -61,7 +61,8 @@ module _ (ws : List ℕ) (fit : length ws < 2 ^ 64) where
   words-lie : {i : ℕ} (vs : List ℕ) → Lies ws i vs → words_from ws i (length vs) ≡ vs
   unfolding words_from
   words-lie [] h = refl
-  words-lie (v ∷ vs) h = ap₂ (λ (w : ℕ) (us : List ℕ). w ∷ us) (word-lies v vs h) (words-lie vs (lies-back (v ∷ []) vs h))
+  words-lie {i = i} (v ∷ vs) h =
+      ap₂ (λ (w : ℕ) (us : List ℕ). w ∷ us) (word-lies v vs h) (words-lie {i = i + 1} vs (lies-back (v ∷ []) vs h))
 
   -- .. a list ..
   pub counted-lies : {i : ℕ} (vs : List ℕ) → Lies ws i (counted_words vs) → counted ws i ≡ vs

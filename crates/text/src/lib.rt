@@ -1,5 +1,7 @@
 // Text put into a lent buffer. The pen tells where the next byte is put, or, to measure, how much room is left: what
 // fills a buffer also measures, and both stop as soon as the room is used up.
+#![tactic(auto)]
+
 pub mod numbers;
 
 ghost use Rattle.std.specs.Prelude.{[], ◌∷◌};

@@ -1,0 +1,8 @@
+-- `gather_scatter_view` puts its sparse dimension, and its padding, if it is there. Assumes nothing.
+use Rattle.kinds.proofs.LawsEndings.{gather-scatter-view-ending}
+use Rattle.kinds.proofs.endings.gather_scatter_view.Goals as goal
+
+pub returns : goal.returns
+returns c =
+    gather-scatter-view-ending _ _ _ _ _ c.ranges.behind.fits c.put_text-named.ensures c.word_at.ensures
+    c.put_decimal-sparse.ensures c.wrapping_add_usize-padding.ensures.value c.close.ensures

@@ -1,0 +1,43 @@
+-- `put_opening` chooses by the tag. Assumes nothing.
+use Rattle.format.specs.Kinds.{kind_of}
+use Rattle.format.proofs.LawsKinds.{kind-plain}
+use Rattle.kinds.specs.Parts.{opening}
+use Rattle.std.proofs.Common.{rules}
+use Rattle.kinds.proofs.openings.put_opening.Goals as goal
+
+pub returns-in-12 : goal.returns-in-12
+unfolding opening kind_of
+returns-in-12 c = rw c.in-12.is c.put_text.ensures
+
+pub returns-in-13 : goal.returns-in-13
+unfolding opening kind_of
+returns-in-13 c = rw c.in-13.is c.tile.ensures
+
+pub returns-in-14 : goal.returns-in-14
+unfolding opening kind_of
+returns-in-14 c = rw c.in-14.is c.tensor_view.ensures
+
+pub returns-in-15 : goal.returns-in-15
+unfolding opening kind_of
+returns-in-15 c = rw c.in-15.is c.view.ensures
+
+pub returns-in-16 : goal.returns-in-16
+unfolding opening kind_of
+returns-in-16 c = rw c.in-16.is c.put_text-in-16.ensures
+
+pub returns-in-20 : goal.returns-in-20
+unfolding opening kind_of
+returns-in-20 c = rw c.in-20.is c.view-in-20.ensures
+
+pub returns-in-21 : goal.returns-in-21
+unfolding opening kind_of
+returns-in-21 c = rw c.in-21.is c.strided_view.ensures
+
+pub returns-in_default : goal.returns-in_default
+unfolding opening kind_of
+returns-in_default c =
+    rw (
+    kind-plain c.args.tag
+    (search rules) (search rules) (search rules) (search rules) (search rules) (search rules) (search rules)
+    )
+    c.scalar.ensures
