@@ -1,0 +1,41 @@
+-- `drop` clears the slot that the instance holds, and its row. Assumes nothing.
+use mathlib.Core.Path.{◌≡◌, refl, sym}
+use native.Mathlib.Omega.{arith}
+use borrow.Author.Rules.{rules}
+use Rattle.format.specs.Read.{accepted}
+use Rattle.slots.specs.Meaning.{drop_answer}
+use Rattle.cache.proofs.LawsCalls.{drop-stays, drop-post, stored-left}
+use Rattle.cache.proofs.LawsFetch.{Holds, holds}
+use Rattle.cache.proofs.drop.Goals as goal
+
+pub own_slot-requires : goal.own_slot-requires
+own_slot-requires c = c.slot_size-size.ensures
+
+pub overflow_mul-slot : goal.overflow_mul-slot
+-- The slot that was found is the instance's.
+overflow_mul-slot c =
+    let held = holds _ _ _ _ _ c.slot_size-size.ensures (sym (rw c.in-Got.is at (c.own_slot.ensures c.args.cache.now refl))) in
+    omega (arith, held.room)
+
+pub fill_slot-requires : goal.fill_slot-requires
+fill_slot-requires c =
+    let held = holds _ _ _ _ _ c.slot_size-size.ensures (sym (rw c.in-Got.is at (c.own_slot.ensures c.args.cache.now refl))) in
+    (held.room, omega arith)
+
+pub put_row-requires : goal.put_row-requires
+put_row-requires c =
+    let held = holds _ _ _ _ _ c.slot_size-size.ensures (sym (rw c.in-Got.is at (c.own_slot.ensures c.args.cache.now refl))) in
+    omega (arith, held.row_room)
+
+pub returns-in-Stop : goal.returns-in-Stop
+returns-in-Stop c =
+    let a = c.args in
+    let e = rw c.in-Stop.is at (c.own_slot.ensures a.cache.now refl) in
+    drop-post _ _ _ _ _ (drop-stays _ _ _ _ _ _ _ refl (sym e))
+
+pub returns-in-Got : goal.returns-in-Got
+returns-in-Got c =
+    let z = c.slot_size-size in
+    let found = sym (rw c.in-Got.is at (c.own_slot.ensures c.args.cache.now refl)) in
+    drop-post _ _ _ _ _
+    (record { answered = sym found; left = stored-left _ _ _ _ _ _ _ _ _ found z.ensures c.fill_slot.ensures c.put_row.ensures })
