@@ -1,5 +1,5 @@
 # make demo: prove, build the library, and see it used from C++.
-# make test: what the gate runs: everything is proved from nothing, and the tests of the hosts.
+# make test: what the gate runs: `rt ci`, and the tests of the hosts.
 # make command: build/tikomuci, which shows and checks files.
 # make library: build/libtikomuci.a, for this machine's processor.
 # make install: the library, its headers and the command, below PREFIX; make uninstall removes them.
@@ -74,13 +74,13 @@ demo: proofs build/demo build/example build/session
 	build/session
 
 proofs: build/setup
-	$(ALONE) $(RT) check
+	$(ALONE) $(RT) all check
 
-# What is tested is made of what the verdict proved: nothing is kept of an earlier proof.
-verdict: build/setup
-	rm -rf build/proved $(LIBRARY) $(X86_64_LIBRARY) build/module
-	$(ALONE) $(RT) ci 2>&1 | tee build/ci.log
-	tools/edit-costs build/ci.log
+# What is tested is made of what the verdict proved: no library of before is used.
+verdict: build/sources
+	$(ALONE) tools/verdict build/ci.log
+	tools/edit-costs build/ci.log.times
+	rm -rf $(LIBRARY) $(X86_64_LIBRARY) build/module
 
 command: build/tikomuci
 
@@ -140,7 +140,7 @@ lint: build/setup
 	tools/lint
 
 clean:
-	rm -rf target build
+	rm -rf build crates/*/out
 
 # programs FOLDER LIBRARY: the C++ side below a folder, each with its own compilers and flags, over a library.
 define programs

@@ -1,6 +1,6 @@
 # Sourced by the tools that use Rattle's compilers: the kit's folder, this machine's processor, and the clang that rt
-# compiles with on it.
+# compiles with. The kit's programs are for x86-64; another processor has to run them by an emulator.
 # shellcheck shell=bash disable=SC2034
-kit=${RATTLE_HOME:-$(dirname "$(dirname "$("${RT:-rt}" doc)")")}
+kit=$(dirname "$("${RT:-rt}" doc)")
 machine=$(uname -m)
-clang=$kit/on/$machine/toolchain/bin/clang
+clang=$kit/toolchain/bin/clang
