@@ -9,7 +9,7 @@ use Rattle.tikomuci.proofs.i32_read.Goals as goal
 pub returns-in-Got : goal.returns-in-Got
 returns-in-Got c =
     let value = c.in-Got.value in
-    let kept = to_z-of_z {w = w32} {z = value} (sfits_of c.known_told-1.given.0.1) in
+    let kept = to_z-of_z {w = w32} {z = value} (sfits_of c.in-Got.known_told-1-own.given.0.1) in
     let bits = c.bits_of_i32.ensures ∙ ap (pattern 32) kept in
     rw (c.in-Got.is, ← bits) c.accept.ensures
 

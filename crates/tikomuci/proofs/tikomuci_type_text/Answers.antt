@@ -4,4 +4,6 @@ use borrow.Author.Rules.{rules}
 use Rattle.tikomuci.proofs.tikomuci_type_text.Goals as goal
 
 pub returns : goal.returns
-returns c = type-named _ _ _ _ c.type_text.result _ c.lettered.ensures c.type_text.ensures
+returns c =
+    type-named _ _ _ _ c.type_text.result _ c.lettered.ensures
+    (c.type_text.ensures.result_value, c.type_text.ensures.out_after)
