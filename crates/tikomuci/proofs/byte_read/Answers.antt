@@ -1,5 +1,4 @@
 -- `byte_read` shows what was answered below. Assumes nothing.
-use borrow.Author.Rules.{rules}
 use Rattle.tikomuci.proofs.byte_read.Goals as goal
 
 pub returns-in-Got : goal.returns-in-Got

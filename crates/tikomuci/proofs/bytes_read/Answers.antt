@@ -1,5 +1,4 @@
 -- `bytes_read` shows what was answered below. Assumes nothing.
-use borrow.Author.Rules.{rules}
 use Rattle.tikomuci.proofs.bytes_read.Goals as goal
 
 pub returns-in-Got : goal.returns-in-Got

@@ -1,5 +1,4 @@
 -- `lettered` shows what was answered below. Assumes nothing.
-use borrow.Author.Rules.{rules}
 use Rattle.tikomuci.proofs.lettered.Goals as goal
 
 pub returns-in-Bytes : goal.returns-in-Bytes

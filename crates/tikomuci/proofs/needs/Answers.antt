@@ -1,5 +1,4 @@
 -- `rules` shows what was answered below. Assumes nothing.
-use borrow.Author.Rules.{rules}
 use Rattle.tikomuci.proofs.needs.Goals as goal
 
 pub returns-in-Got : goal.returns-in-Got

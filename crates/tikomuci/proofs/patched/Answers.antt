@@ -1,5 +1,4 @@
 -- `patched` shows what was answered below. Assumes nothing.
-use borrow.Author.Rules.{rules}
 use Rattle.tikomuci.proofs.patched.Goals as goal
 
 pub returns-in-Next : goal.returns-in-Next

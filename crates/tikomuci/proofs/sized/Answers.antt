@@ -1,5 +1,4 @@
 -- `sized` shows what was answered below. Assumes nothing.
-use borrow.Author.Rules.{rules}
 use Rattle.tikomuci.proofs.sized.Goals as goal
 
 pub returns-in-Bytes : goal.returns-in-Bytes

@@ -1,5 +1,4 @@
 -- `slotted` shows what was answered below. Assumes nothing.
-use borrow.Author.Rules.{rules}
 use Rattle.tikomuci.proofs.slotted.Goals as goal
 
 pub returns-in-Got : goal.returns-in-Got

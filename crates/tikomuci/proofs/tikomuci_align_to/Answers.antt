@@ -1,5 +1,4 @@
 -- `tikomuci_align_to` answers what crate encoding answered. Assumes nothing.
-use borrow.Author.Rules.{rules}
 use Rattle.tikomuci.specs.Boundary.{next_aligned}
 use Rattle.tikomuci.proofs.LawsBoundary.{puts}
 use Rattle.tikomuci.proofs.tikomuci_align_to.Goals as goal

@@ -1,5 +1,4 @@
 -- `tikomuci_body` answers what the crate below answered. Assumes nothing.
-use borrow.Author.Rules.{rules}
 use Rattle.tikomuci.proofs.LawsViews.{row-viewed}
 use Rattle.tikomuci.proofs.tikomuci_body.Goals as goal
 

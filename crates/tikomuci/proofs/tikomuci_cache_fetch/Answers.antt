@@ -1,5 +1,4 @@
 -- `tikomuci_cache_fetch` answers what the crate below answered. Assumes nothing.
-use borrow.Author.Rules.{rules}
 use Rattle.tikomuci.proofs.LawsCaches.{cache-fetched}
 use Rattle.tikomuci.proofs.tikomuci_cache_fetch.Goals as goal
 

@@ -1,5 +1,4 @@
 -- `tikomuci_cache_put` answers and leaves what the crate below did. Assumes nothing.
-use borrow.Author.Rules.{rules}
 use Rattle.tikomuci.proofs.LawsCaches.{cache-put}
 use Rattle.tikomuci.proofs.tikomuci_cache_put.Goals as goal
 

@@ -1,5 +1,4 @@
 -- `tikomuci_image` answers what the crate below answered. Assumes nothing.
-use borrow.Author.Rules.{rules}
 use Rattle.tikomuci.proofs.LawsSheets.{sheet-imaged}
 use Rattle.tikomuci.proofs.tikomuci_image.Goals as goal
 

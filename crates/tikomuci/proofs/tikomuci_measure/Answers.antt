@@ -1,5 +1,4 @@
 -- `tikomuci_measure` answers what the crate below answered. Assumes nothing.
-use borrow.Author.Rules.{rules}
 use Rattle.tikomuci.proofs.LawsFiles.{file-measured}
 use Rattle.tikomuci.proofs.tikomuci_measure.Goals as goal
 

@@ -1,5 +1,4 @@
 -- `tikomuci_read` answers and leaves what the crate below did. Assumes nothing.
-use borrow.Author.Rules.{rules}
 use Rattle.tikomuci.proofs.LawsFiles.{file-done}
 use Rattle.tikomuci.proofs.tikomuci_read.Goals as goal
 

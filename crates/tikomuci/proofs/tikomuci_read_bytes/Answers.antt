@@ -1,6 +1,5 @@
 -- `tikomuci_read_bytes` refuses a place past the data, and else answers what crate reading answered. Assumes nothing.
 use mathlib.Core.Path.{refl, ◌∙◌}
-use borrow.Author.Rules.{rules}
 use Rattle.exact.specs.Fixed.{raw}
 use Rattle.reading.specs.Numbers.{placed}
 use Rattle.tikomuci.specs.Boundary.{run}

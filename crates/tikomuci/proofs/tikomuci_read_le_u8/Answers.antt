@@ -1,5 +1,4 @@
 -- `tikomuci_read_le_u8` answers what crate reading answered. Assumes nothing.
-use borrow.Author.Rules.{rules}
 use Rattle.tikomuci.specs.Boundary.{number}
 use Rattle.tikomuci.proofs.LawsBoundary.{told}
 use Rattle.tikomuci.proofs.tikomuci_read_le_u8.Goals as goal

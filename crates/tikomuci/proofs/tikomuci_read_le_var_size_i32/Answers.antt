@@ -1,6 +1,5 @@
 -- `tikomuci_read_le_var_size_i32` answers what crate reading answered. Assumes nothing.
 use mathlib.Core.Path.{◌∙◌}
-use borrow.Author.Rules.{rules}
 use Rattle.tikomuci.specs.Boundary.{items}
 use Rattle.tikomuci.proofs.LawsBoundary.{items-of, told}
 use Rattle.tikomuci.proofs.tikomuci_read_le_var_size_i32.Goals as goal

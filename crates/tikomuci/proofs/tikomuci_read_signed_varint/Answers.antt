@@ -1,5 +1,4 @@
 -- `tikomuci_read_signed_varint` answers what crate reading answered. Assumes nothing.
-use borrow.Author.Rules.{rules}
 use Rattle.tikomuci.specs.Boundary.{signed_number}
 use Rattle.tikomuci.proofs.LawsBoundary.{told}
 use Rattle.tikomuci.proofs.tikomuci_read_signed_varint.Goals as goal

@@ -1,5 +1,4 @@
 -- `tikomuci_section` answers what the crate below answered. Assumes nothing.
-use borrow.Author.Rules.{rules}
 use Rattle.tikomuci.proofs.LawsViews.{section-viewed}
 use Rattle.tikomuci.proofs.tikomuci_section.Goals as goal
 

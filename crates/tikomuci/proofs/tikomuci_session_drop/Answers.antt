@@ -1,5 +1,4 @@
 -- `tikomuci_session_drop` answers and leaves what the crate below did. Assumes nothing.
-use borrow.Author.Rules.{rules}
 use Rattle.tikomuci.proofs.LawsCaches.{cache-dropped}
 use Rattle.tikomuci.proofs.tikomuci_session_drop.Goals as goal
 

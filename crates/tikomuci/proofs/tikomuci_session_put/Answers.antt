@@ -1,5 +1,4 @@
 -- `tikomuci_session_put` answers and leaves what the crate below did. Assumes nothing.
-use borrow.Author.Rules.{rules}
 use Rattle.tikomuci.proofs.LawsCaches.{cache-put}
 use Rattle.tikomuci.proofs.tikomuci_session_put.Goals as goal
 

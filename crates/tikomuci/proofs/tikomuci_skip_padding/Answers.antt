@@ -1,6 +1,5 @@
 -- `tikomuci_skip_padding` refuses a place past the data, and else answers what crate reading answered. Assumes nothing.
 use mathlib.Core.Path.{refl}
-use borrow.Author.Rules.{rules}
 use Rattle.reading.specs.Numbers.{padding_at}
 use Rattle.tikomuci.specs.Boundary.{skipped}
 use Rattle.tikomuci.proofs.LawsBoundary.{shown-past, told}

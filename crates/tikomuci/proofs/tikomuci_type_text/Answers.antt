@@ -1,6 +1,5 @@
 -- `tikomuci_type_text` answers and leaves what the crate below did. Assumes nothing.
 use Rattle.tikomuci.proofs.LawsSheets.{type-named}
-use borrow.Author.Rules.{rules}
 use Rattle.tikomuci.proofs.tikomuci_type_text.Goals as goal
 
 pub returns : goal.returns

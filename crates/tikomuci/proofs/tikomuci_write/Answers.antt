@@ -1,5 +1,4 @@
 -- `tikomuci_write` answers and leaves what the crate below did. Assumes nothing.
-use borrow.Author.Rules.{rules}
 use Rattle.tikomuci.proofs.LawsSheets.{sheet-written}
 use Rattle.tikomuci.proofs.tikomuci_write.Goals as goal
 

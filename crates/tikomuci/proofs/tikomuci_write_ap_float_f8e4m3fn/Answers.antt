@@ -1,6 +1,5 @@
 -- `tikomuci_write_ap_float_f8e4m3fn` answers what crate encoding answered. Assumes nothing.
 use mathlib.Core.Path.{refl}
-use borrow.Author.Rules.{rules}
 use Rattle.tikomuci.proofs.LawsBoundary.{puts-float}
 use Rattle.tikomuci.proofs.tikomuci_write_ap_float_f8e4m3fn.Goals as goal
 

@@ -1,6 +1,5 @@
 -- `tikomuci_write_ap_float_f8e5m2` answers what crate encoding answered. Assumes nothing.
 use mathlib.Core.Path.{refl}
-use borrow.Author.Rules.{rules}
 use Rattle.tikomuci.proofs.LawsBoundary.{puts-float}
 use Rattle.tikomuci.proofs.tikomuci_write_ap_float_f8e5m2.Goals as goal
 

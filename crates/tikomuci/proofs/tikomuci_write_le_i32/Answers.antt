@@ -1,7 +1,6 @@
 -- `tikomuci_write_le_i32` answers what crate encoding answered. Assumes nothing.
 use mathlib.Core.Path.{ap}
 use mir.Facts.{to_z-of_z}
-use borrow.Author.Rules.{rules}
 use Rattle.exact.specs.Fixed.{bytes_of}
 use Rattle.encoding.specs.Signed.{pattern}
 use Rattle.encoding.proofs.LawsOut.{puts-as}

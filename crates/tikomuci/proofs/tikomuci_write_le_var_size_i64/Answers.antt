@@ -1,5 +1,4 @@
 -- `tikomuci_write_le_var_size_i64` answers what crate encoding answered. Assumes nothing.
-use borrow.Author.Rules.{rules}
 use Rattle.tikomuci.specs.Boundary.{next_place}
 use Rattle.tikomuci.proofs.LawsBoundary.{puts}
 use Rattle.tikomuci.proofs.tikomuci_write_le_var_size_i64.Goals as goal

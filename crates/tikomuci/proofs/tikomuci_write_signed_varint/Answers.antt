@@ -1,7 +1,6 @@
 -- `tikomuci_write_signed_varint` answers what crate encoding answered. Assumes nothing.
 use mathlib.Core.Path.{ap}
 use mir.Facts.{to_z-of_z}
-use borrow.Author.Rules.{rules}
 use Rattle.encoding.specs.Signed.{zigzag}
 use Rattle.encoding.specs.Varint.{spelling}
 use Rattle.encoding.proofs.LawsOut.{puts-as}

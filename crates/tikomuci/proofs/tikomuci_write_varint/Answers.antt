@@ -1,5 +1,4 @@
 -- `tikomuci_write_varint` answers what crate encoding answered. Assumes nothing.
-use borrow.Author.Rules.{rules}
 use Rattle.tikomuci.specs.Boundary.{next_place}
 use Rattle.tikomuci.proofs.LawsBoundary.{puts}
 use Rattle.tikomuci.proofs.tikomuci_write_varint.Goals as goal

@@ -2,7 +2,6 @@
 use mathlib.Core.Path.{sym, ◌∙◌}
 use native.Mathlib.Decide.{dec_le}
 use native.Mathlib.Omega.{arith}
-use borrow.Author.Rules.{rules}
 use Rattle.exact.proofs.LawsChoice.{choose_yes, choose_no}
 use Rattle.tikomuci.proofs.unless_past.Goals as goal
 
