@@ -1,5 +1,7 @@
 // The shared profile cache: one lent buffer in equal slots, and a lent owner table that says who holds which. The number of
 // slots is a parameter. Nothing is written before everything is judged, so a refused call changes nothing.
+#![tactic(auto)]
+
 ghost use Rattle.std.specs.Prelude.{◌≡◌, [], ◌∷◌, ◌++◌, ◌+◌, ◌-◌, ◌*◌, ◌/◌, ◌≤◌, length, take, drop, replicate};
 ghost use Rattle.encoding.specs.Out.{put};
 ghost use Rattle.format.specs.Read.{map_read};

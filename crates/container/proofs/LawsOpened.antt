@@ -6,7 +6,6 @@ use native.Mathlib.Omega.{arith}
 use native.Mathlib.Decide.{dec_le}
 use mathlib.Core.List.{List}
 use lib.ListN.{length}
-use denote.Enum.Declared.{tag_of}
 use Rattle.exact.specs.Got.{Got, got, stop}
 use Rattle.exact.specs.Choice.{choose}
 use Rattle.exact.proofs.LawsChoice.{choose_yes, choose_no}
@@ -27,8 +26,6 @@ use Rattle.container.specs.declared.sections.Container.{Container as Held}
 use Rattle.container.specs.declared.sections.Walked.TheVariants as walk
 use Rattle.container.specs.declared.sections.Judged.TheVariants as judged
 use Rattle.container.specs.Container.{held_places, raw_sections, Opened, opened, held_version, held_container}
-use Rattle.container.specs.contracts.sections.Walked.{the_type as walked-type}
-use Rattle.container.specs.contracts.sections.Judged.{the_type as judged-type}
 
 -- What the walk's answer says of the model: a refusal ..
 pub raw-stop : (r : RawSections) (g : Got (List Section)) (x : Refused) → r ≡ raw_sections g → r.walked ≡ walk.Stop x →

@@ -1,4 +1,6 @@
 // decoder.rs: header and section walk, and the view of a section.
+#![tactic(auto)]
+
 pub mod sections;
 
 ghost use Rattle.container.specs.Views.{SectionPost};

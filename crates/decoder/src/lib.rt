@@ -1,4 +1,6 @@
 // decoder.rs: reads a file of Tile IR bytecode.
+#![tactic(auto)]
+
 mod views;
 
 ghost use Rattle.enums.specs.Container.{string_id, constant_id, func_id};

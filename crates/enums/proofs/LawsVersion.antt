@@ -1,12 +1,11 @@
 -- A version class begins at tag 0, so the order of whole versions decides it by major and minor alone. Assumes nothing.
-use mathlib.Core.Path.{◌≡◌, refl}
+use mathlib.Core.Path.{◌≡◌}
 use mathlib.Core.Logic.{◌↔◌}
 use Prim.Native.Nat.{ℕ, ◌<◌, ◌≤◌}
 use native.Mathlib.Omega.{arith}
-use native.Mathlib.Decide.{dec_lt, dec_le}
-use mathlib.Core.Bool.{Bool, true, false, cond}
+use native.Mathlib.Decide.{dec_lt}
+use mathlib.Core.Bool.{true, false}
 use borrow.Author.Tests.{lt-ltb, le-ltb, le-leb, lt-leb}
-use lib.Dec.{ltb, leb}
 use Rattle.enums.specs.Version.{at_least, NotBefore, later_major, later_minor, tag_reached}
 
 by_less : {P : Type 0} (a b : ℕ) → (a < b → P) → (b ≤ a → P) → P

@@ -1,5 +1,7 @@
 // The numbers of enums.rs, and document 01's refusal numbers and stages, as constants of their types. The functions
 // `all` prove that they are the numbers that specs/ names, in that order.
+#![tactic(auto)]
+
 ghost use Rattle.std.specs.Prelude.{◌≡◌, get_or};
 ghost use Rattle.enums.specs.Container as container;
 ghost use Rattle.enums.specs.Types as types;

@@ -1,6 +1,5 @@
 -- A choice between exact parsers is exact, and so is a test of what one reads. Assumes nothing.
 use mathlib.Core.Path.{◌≡◌, refl}
-use mathlib.Core.Logic.{◌↔◌}
 use Prim.Native.Nat.{ℕ}
 use mathlib.Core.List.{List, [], ◌++◌, append-nil}
 use Rattle.exact.specs.Exact.{Parser, Lang, Exact}

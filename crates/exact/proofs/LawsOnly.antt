@@ -5,7 +5,7 @@ use Prim.Native.Nat.{ℕ, zero, suc, ◌+◌, ◌-◌}
 use native.Mathlib.Decide.{dec_le, ℕ_discrete}
 use mathlib.Core.List.{List, [], ◌∷◌}
 use lib.ListN.{length, drop, replicate}
-use Rattle.exact.specs.Got.{Got, got, stop, ended, follow}
+use Rattle.exact.specs.Got.{Got, got, ended, follow}
 use Rattle.exact.specs.Exact.{Parser}
 use Rattle.exact.specs.Basic.{byte, byte_of, pure, fail}
 use Rattle.exact.specs.Sequence.{bind, mapped}

@@ -1,17 +1,17 @@
 -- Known bytes and padding are read exactly, once over the alignment, and padding ends at a multiple of it.
 -- Assumes nothing.
-use mathlib.Core.Path.{◌≡◌, refl, sym, ap, ◌∙◌}
-use Prim.Native.Nat.{ℕ, zero, suc, ◌+◌, ◌-◌, ◌*◌, ◌/◌, ◌%◌, ◌≤◌, ◌<◌}
+use mathlib.Core.Path.{◌≡◌, refl, ap, ◌∙◌}
+use Prim.Native.Nat.{ℕ, ◌+◌, ◌-◌, ◌*◌, ◌/◌, ◌%◌, ◌≤◌, ◌<◌}
 use native.Mathlib.Nat.{mod-lt, add-mod-mod, mod_self, div-add-mod, mul-add-mod_self_left}
 use native.Mathlib.Omega.{arith}
 use native.Mathlib.Decide.{dec_lt, ℕ_discrete}
-use mathlib.Core.List.{List, [], ◌∷◌, ◌++◌}
-use lib.ListN.{length, drop, replicate}
+use mathlib.Core.List.{List, [], ◌∷◌}
+use lib.ListN.{replicate}
 use Rattle.exact.specs.Got.{Got, got, stop}
 use Rattle.exact.specs.Exact.{Parser, Lang, Exact}
 use Rattle.exact.specs.Basic.{One, one, Is, is, Never}
 use Rattle.exact.specs.Sequence.{Then, then}
-use Rattle.exact.specs.Choice.{choose, If, so, else}
+use Rattle.exact.specs.Choice.{If, so, else}
 use Rattle.exact.specs.Padding.{literal, Literal, literal_of, broke, blamed, here, gap, pad, Pad}
 use Rattle.exact.proofs.LawsExact.{same-exact, stop-not-got}
 use Rattle.exact.proofs.LawsBasic.{byte-exact, pure-exact, fail-exact}

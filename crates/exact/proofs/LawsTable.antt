@@ -9,7 +9,7 @@ use Rattle.exact.specs.Exact.{Lang, Exact, Ends}
 use Rattle.exact.specs.Sequence.{Then, then}
 use Rattle.exact.specs.Repeat.{Many}
 use Rattle.exact.specs.Fixed.{Fixed}
-use Rattle.exact.specs.Padding.{Pad, gap, Literal, literal_of}
+use Rattle.exact.specs.Padding.{Pad, gap, literal_of}
 use Rattle.exact.specs.Tiling.{Tiled, join, sums}
 use Rattle.exact.specs.Table.{Shape, table, Table}
 use Rattle.exact.proofs.LawsExact.{same_ends, ends-whole}

@@ -8,7 +8,7 @@ use lib.ListN.{length, drop}
 use Rattle.exact.specs.Got.{Got, got, stop}
 use Rattle.exact.specs.Exact.{Parser, Lang, Exact, Ends}
 use Rattle.exact.specs.Sequence.{Then, then}
-use Rattle.exact.specs.Fixed.{raw, Raw, raw_of}
+use Rattle.exact.specs.Fixed.{Raw, raw_of}
 use Rattle.exact.specs.Rest.{Holds, holds}
 use Rattle.exact.specs.Within.{moved, inside, payload, Payload, payload_of}
 use Rattle.exact.proofs.LawsExact.{same-exact, stop-not-got, got-next, got-value}

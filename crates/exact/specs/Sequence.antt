@@ -1,6 +1,6 @@
 -- One thing after another, and a function of what was read.
 use Rattle.std.specs.Prelude.{ℕ, ◌+◌, List, ◌++◌, length}
-use Rattle.exact.specs.Got.{Got, follow}
+use Rattle.exact.specs.Got.{follow}
 use Rattle.exact.specs.Exact.{Parser}
 use Rattle.exact.specs.Basic.{pure}
 

@@ -1,5 +1,5 @@
 -- A list cut into entries by where they start: the tiling that the starts describe, and the judge that finds it.
-use Rattle.std.specs.Prelude.{◌≡◌, ℕ, ◌+◌, ◌≤◌, List, [], ◌∷◌, ◌++◌, length, take, drop}
+use Rattle.std.specs.Prelude.{◌≡◌, ℕ, ◌+◌, List, [], ◌∷◌, ◌++◌, length, take, drop}
 use Rattle.std.proofs.Math.Decide.{dec_le}
 use Rattle.std.proofs.Math.Option.{Option, none, some}
 use Rattle.exact.specs.Choice.{choose}

@@ -1,4 +1,6 @@
 // Eight-bit floats from the 64 bits of an f64: "F8 float conversion" of encoding.rs.
+#![tactic(auto)]
+
 ghost use Rattle.std.specs.Prelude.{◌≡◌, ◌+◌, ◌/◌, ◌%◌, ◌^◌, ◌<◌, min, max};
 ghost use Rattle.float8.specs.Magnitude.{magnitude_by, magnitude64};
 ghost use Rattle.float8.specs.Nearest.{Nearest};

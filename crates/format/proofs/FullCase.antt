@@ -1,6 +1,6 @@
 -- A case with rows in every table and a type of every kind (version 13.4): its sheet, pool and image, each made by hand
 -- from document 01, and the judge's and the reader's answers. Assumes nothing.
-use mathlib.Core.Path.{◌≡◌, refl, ap, ◌∙◌}
+use mathlib.Core.Path.{◌≡◌, refl}
 use Prim.Native.Nat.{ℕ, ◌≤◌}
 use native.Mathlib.Decide.{dec_le, dec_lt, ℕ_discrete}
 use native.Mathlib.Omega.{arith}

@@ -5,7 +5,6 @@ use Prim.Native.Nat.{ℕ, ◌+◌, ◌^◌, ◌<◌}
 use mathlib.Core.List.{List, [], ◌∷◌, ◌++◌, map, append_assoc}
 use lib.ListN.{length, replicate}
 use Rattle.exact.specs.Exact.{Lang}
-use Rattle.exact.specs.Sequence.{of}
 use Rattle.exact.specs.Choice.{choose}
 use Rattle.exact.specs.Repeat.{Many, nil, cons, counted_of}
 use Rattle.exact.specs.Fixed.{bytes_of, Fixed}

@@ -1,13 +1,13 @@
 -- Every refusal of reading or viewing a file is one that its stage has, and so none has the number 0. Assumes nothing.
-use mathlib.Core.Path.{◌≡◌, refl, sym, ap, ◌∙◌, subst}
-use mathlib.Core.Bool.{true, false, true≢false}
+use mathlib.Core.Path.{◌≡◌, refl, sym, ◌∙◌, subst}
+use mathlib.Core.Bool.{false, true≢false}
 use mathlib.Core.Option.{Option, none, some}
 use Prim.Native.Nat.{ℕ, zero, suc, ◌<◌}
 use native.Mathlib.Omega.{arith}
 use native.Mathlib.Decide.{dec_le, dec_lt}
 use mathlib.Core.List.{List, [], ◌∷◌}
 use lib.ListN.{length, get_or}
-use Rattle.exact.specs.Got.{Got, got, stop}
+use Rattle.exact.specs.Got.{Got}
 use Rattle.exact.specs.Choice.{choose}
 use Rattle.exact.specs.Entries.{Rows}
 use Rattle.exact.specs.Only.{Says, no_refusal, such_refusal}
@@ -15,13 +15,13 @@ use Rattle.enums.specs.Container.{string_id, func_id, debug_id, constant_id, typ
 use Rattle.enums.specs.Refusals as refusals
 use Rattle.format.specs.Types.{among}
 use Rattle.format.specs.Sound.{All}
-use Rattle.format.specs.Tables.{Version, Tables}
+use Rattle.format.specs.Tables.{Version}
 use Rattle.format.specs.Sections.{Section}
 use Rattle.format.specs.Strings.{no_rows}
 use Rattle.format.specs.Debug.{no_debug}
 use Rattle.format.specs.Explains.{Placed, class}
-use Rattle.format.specs.Read.{Read, accepted, refused, at_stage, map_read}
-use Rattle.format.specs.DecodeContainer.{header_at, sections_at, last_with}
+use Rattle.format.specs.Read.{Read, refused, at_stage, map_read}
+use Rattle.format.specs.DecodeContainer.{last_with}
 use Rattle.format.specs.DecodeTables.{strings_at, constants_at, producer_at}
 use Rattle.format.specs.DecodeTypes.{types_at}
 use Rattle.format.specs.DecodeRows.{globals_at, functions_at}

@@ -4,7 +4,7 @@ use mathlib.Core.Path.{◌≡◌, refl, sym, ap, ap₂, ◌∙◌, subst}
 use Prim.Native.String.{String}
 use Prim.Native.Nat.{ℕ, ◌+◌, ◌%◌, ◌^◌, ◌≤◌, ◌<◌}
 use native.Mathlib.Omega.{arith}
-use mathlib.Core.Bool.{true, false, false≢true}
+use mathlib.Core.Bool.{false, false≢true}
 use mathlib.Core.List.{List, [], ◌∷◌, ◌++◌, map, append-nil, append_assoc}
 use lib.Dec.{eqb}
 use borrow.Author.Tests.{eqb-false}
@@ -21,7 +21,7 @@ use Rattle.format.proofs.LawsKinds.{plain-kind}
 use Rattle.sheet.specs.Store.{words_in}
 use Rattle.sheet.specs.Lies.{Lies}
 use Rattle.sheet.proofs.LawsLies.{lies-front, lies-back, lies-first, lies-inside, lies-taken}
-use Rattle.text.specs.Counted.{word, counted, after_list}
+use Rattle.text.specs.Counted.{counted, after_list}
 use Rattle.text.specs.Numbers.{low32}
 use Rattle.text.proofs.LawsCounted.{word-lies, counted-lies, after-lies}
 use Rattle.text.proofs.LawsNumbers.{low32-fits}

@@ -1,5 +1,7 @@
 // The name of a type row of a handed sheet (decoder.rs, `decode_type_entry`): the sheet is judged, the name measured
 // within the room of the buffer, and put. Describing a type and describing a list call each other, on earlier rows only.
+#![tactic(auto)]
+
 ghost use Rattle.std.specs.Prelude.{◌≡◌, ◌+◌, ◌≤◌, ◌<◌, length};
 ghost use Rattle.format.specs.Read.{map_read};
 ghost use Rattle.text.specs.Text.{Put};

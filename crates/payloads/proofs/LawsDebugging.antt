@@ -12,7 +12,7 @@ use Rattle.exact.specs.Entries.{raised}
 use Rattle.exact.proofs.LawsExact.{stop-not-got, got-value}
 use Rattle.enums.specs.Refusals as refusals
 use Rattle.format.specs.Debug.{DebugTables, no_debug}
-use Rattle.format.specs.Read.{refused, at_stage}
+use Rattle.format.specs.Read.{at_stage}
 use Rattle.format.specs.Decode.{most_bytes}
 use Rattle.format.specs.DecodeDebug.{debug_at}
 use Rattle.format.specs.Sound.{All, Fits}

@@ -10,13 +10,11 @@ use mathlib.Core.List.{List, [], ◌∷◌}
 use lib.ListN.{length, get_or, take, drop, drop_of_length-le}
 use lib.Seq.{drop-cons, get_or-take, get_or-drop, take-take, length-take-le}
 use Rattle.exact.specs.Got.{Got, got, follow}
-use Rattle.exact.specs.Basic.{byte, pure, fail}
+use Rattle.exact.specs.Basic.{byte, pure}
 use Rattle.exact.specs.Sequence.{bind, mapped}
 use Rattle.exact.specs.Repeat.{times}
 use Rattle.exact.specs.Padding.{broke, blamed}
-use Rattle.exact.proofs.LawsChoice.{choose_yes, choose_no}
 use Rattle.exact.proofs.LawsSteps.{byte_at}
-use Rattle.enums.specs.Refusals as refusals
 use Rattle.enums.specs.Debug.{field_counts}
 use Rattle.reading.specs.Numbers.{digits, varint_at}
 use Rattle.reading.proofs.LawsDigits.{digits_last, digits_more, digits-tenth}

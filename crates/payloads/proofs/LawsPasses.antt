@@ -1,8 +1,8 @@
 -- The steps of a pass, one after the other. Assumes nothing.
 use mathlib.Core.Path.{◌≡◌, refl, sym, ap, ap₂, ◌∙◌, subst}
-use Prim.Native.Nat.{ℕ, ◌+◌, ◌*◌, ◌^◌, ◌≤◌}
+use Prim.Native.Nat.{ℕ, ◌≤◌}
 use native.Mathlib.Omega.{arith}
-use mathlib.Core.List.{List, []}
+use mathlib.Core.List.{List}
 use lib.ListN.{length, get_or}
 use Rattle.exact.specs.Tiling.{join}
 use Rattle.enums.specs.Container.{string_id, func_id, debug_id, constant_id, type_id, global_id, producer_id}
@@ -20,35 +20,7 @@ use Rattle.container.specs.declared.sections.SectionPlace.{SectionPlace}
 use Rattle.container.specs.declared.sections.Stopped.{Stopped}
 use Rattle.sheet.specs.Store.{put_words, put_runs}
 use Rattle.payloads.specs.declared.answers.Filled.{Filled}
-use Rattle.payloads.specs.Pass.{
-  no_rows,
-  table_in,
-  number_of,
-  stage_of,
-  in_place,
-  all_words,
-  all_runs,
-  contents_of,
-  filled_sheet,
-  Begun,
-  pass_of,
-  Small,
-  Progress,
-  Goes,
-  Roomy,
-  value_of,
-  with_table,
-  with_producer,
-  with_debug,
-  begun,
-  place_at,
-  table_step,
-  named,
-  passed,
-  head_words,
-  file_of,
-  Passes,
-}
+use Rattle.payloads.specs.Pass.{no_rows, table_in, stage_of, in_place, all_words, all_runs, contents_of, filled_sheet, Begun, pass_of, Small, Progress, Goes, Roomy, value_of, with_table, with_producer, with_debug, begun, table_step, named, passed, head_words, file_of, Passes}
 use Rattle.payloads.specs.declared.FileRead.TheVariants as file
 use Rattle.payloads.specs.declared.pass.Table.{Table}
 use Rattle.payloads.specs.declared.pass.Table.TheVariants.{Strings, Types, Constants, Globals, Functions}

@@ -1,16 +1,15 @@
 -- The producer's step of a pass. Assumes nothing.
-use mathlib.Core.Path.{◌≡◌, refl, sym, ap, ap₂, ◌∙◌, subst}
-use Prim.Native.Nat.{ℕ, ◌+◌, ◌≤◌, ◌<◌}
-use native.Mathlib.Omega.{arith}
+use mathlib.Core.Path.{◌≡◌, refl, sym, ap, ap₂, ◌∙◌}
+use Prim.Native.Nat.{ℕ, ◌+◌, ◌<◌}
 use mathlib.Core.Bool.{true, false}
 use mathlib.Core.Option.{Option, none, some}
 use mathlib.Core.List.{List}
 use lib.ListN.{length}
-use Rattle.exact.specs.Got.{Got, got, stop}
+use Rattle.exact.specs.Got.{got, stop}
 use Rattle.exact.specs.Entries.{raised}
 use Rattle.enums.specs.Refusals as refusals
 use Rattle.format.specs.Strings.{Producer, producer}
-use Rattle.format.specs.Read.{accepted, refused, at_stage}
+use Rattle.format.specs.Read.{accepted, at_stage}
 use Rattle.format.specs.Sheet.{producer_word}
 use Rattle.format.specs.DecodeTables.{producer_at}
 use Rattle.format.proofs.LawsTables.{producer-ends}
@@ -20,10 +19,10 @@ use Rattle.entries.specs.Rows.{got_producer}
 use Rattle.entries.specs.declared.rows.ProducerRead.{ProducerRead}
 use Rattle.entries.specs.declared.rows.ProducerRead.TheVariants as producer-read
 use Rattle.payloads.specs.declared.answers.Filled.{Filled}
-use Rattle.payloads.specs.Pass.{payload_in, in_place, Begun, pass_of, Small, Goes, value_of, with_producer}
+use Rattle.payloads.specs.Pass.{payload_in, in_place, Goes, value_of, with_producer}
 use Rattle.payloads.specs.declared.pass.Pass.{Pass}
 use Rattle.payloads.specs.declared.pass.Pass.TheVariants as pass
-use Rattle.payloads.proofs.LawsPass.{filled_at, in-absent, in-present, Steps, goes-refused, goes_on}
+use Rattle.payloads.proofs.LawsPass.{filled_at, in-absent, in-present, goes-refused, goes_on}
 
 producer-inside : (n i : ℕ) (bs : List ℕ) (v : ℕ) → Producer n i bs (some v) → v < n
 producer-inside n i bs v (producer left s h) = h

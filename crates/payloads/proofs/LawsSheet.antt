@@ -2,7 +2,7 @@
 use mathlib.Core.Path.{◌≡◌, refl, sym, ap, ◌∙◌}
 use Prim.Native.Nat.{ℕ, ◌+◌, ◌≤◌}
 use native.Mathlib.Omega.{arith}
-use mathlib.Core.List.{List, [], ◌∷◌, ◌++◌, map, append-nil, append_assoc}
+use mathlib.Core.List.{List, ◌++◌, map, append-nil}
 use lib.ListN.{length, length-append, length-map}
 use Rattle.exact.specs.Tiling.{join}
 use Rattle.format.specs.Tables.{Tables}

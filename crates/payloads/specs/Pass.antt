@@ -2,7 +2,7 @@
 -- words 5 to 18, the rows from word 19 on, the pool).
 use Rattle.std.specs.Prelude.{◌≡◌, ℕ, ◌+◌, ◌*◌, ◌^◌, ◌≤◌, true, List, [], ◌∷◌, ◌++◌, map, length, take, drop, get_or}
 use Rattle.std.proofs.Math.Bool.{Bool-discrete}
-use Rattle.std.proofs.Math.Option.{Option, none}
+use Rattle.std.proofs.Math.Option.{none}
 use Rattle.exact.specs.Got.{Got, got}
 use Rattle.exact.specs.Choice.{choose}
 use Rattle.exact.specs.Tiling.{join}

@@ -1,5 +1,7 @@
 // decoder.rs: the readers of the payloads that fill stores, and the two calls that pass over a file with them: one
 // measures, one fills lent stores. These two calls are what can be called from outside.
+#![tactic(auto)]
+
 mod answers;
 mod debug;
 mod fields;

@@ -1,5 +1,7 @@
 // decoder.rs's low-level Reader as a cursor by value: each method is lent the data, and answers the value with the reader
 // behind it, or a refusal with the first byte of the number, byte run or padding that was being read.
+#![tactic(auto)]
+
 ghost use Rattle.std.specs.Prelude.{◌≡◌, ◌+◌, ◌≤◌, ◌<◌, min, length};
 ghost use Rattle.exact.specs.Basic.{byte};
 ghost use Rattle.exact.specs.Fixed.{raw, fixed};

@@ -1,5 +1,7 @@
 // Words in a lent byte store, little-endian, whole words only; and runs of bytes in a lent pool. What has no room is not
 // stored, so that one function measures on an empty store and fills a large enough one.
+#![tactic(auto)]
+
 ghost use Rattle.std.specs.Prelude.{◌≡◌, ◌+◌, ◌≤◌, length, get_or};
 ghost use Rattle.encoding.specs.Out.{put};
 ghost use Rattle.sheet.specs.Store.{put_word, words_in};

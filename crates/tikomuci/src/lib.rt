@@ -1,5 +1,7 @@
 // The exported calls: thin, over plain numbers and byte slices. Each contract is that of the crate below it, seen through
 // the answer struct; a refused call changes no lent memory.
+#![tactic(auto)]
+
 ghost use Rattle.std.specs.Prelude.{◌≡◌, ◌-◌, [], ◌∷◌, map, length, replicate};
 ghost use Rattle.std.proofs.Math.Decide.{dec_le};
 ghost use Rattle.exact.specs.Basic.{byte};

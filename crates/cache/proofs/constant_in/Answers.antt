@@ -1,7 +1,6 @@
 -- `constant_in` views a constant of a file in the buffer, at its place there. Assumes nothing.
 use mathlib.Core.Path.{ap}
 use native.Mathlib.Omega.{arith}
-use borrow.Author.Rules.{rules}
 use Rattle.format.specs.Read.{map_read}
 use Rattle.container.specs.Views.{view_of}
 use Rattle.cache.proofs.LawsFetch.{view-placed, view-begins}

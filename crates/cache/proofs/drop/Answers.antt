@@ -1,11 +1,8 @@
 -- `drop` clears the slot that the instance holds, and its row. Assumes nothing.
-use mathlib.Core.Path.{◌≡◌, refl, sym}
+use mathlib.Core.Path.{refl, sym}
 use native.Mathlib.Omega.{arith}
-use borrow.Author.Rules.{rules}
-use Rattle.format.specs.Read.{accepted}
-use Rattle.slots.specs.Meaning.{drop_answer}
 use Rattle.cache.proofs.LawsCalls.{drop-stays, drop-post, stored-left}
-use Rattle.cache.proofs.LawsFetch.{Holds, holds}
+use Rattle.cache.proofs.LawsFetch.{holds}
 use Rattle.cache.proofs.drop.Goals as goal
 
 pub own_slot-requires : goal.own_slot-requires

@@ -1,9 +1,8 @@
 -- `fetch` views the constant of the file in the slot that the instance holds. Assumes nothing.
 use mathlib.Core.Path.{refl, sym, ap, ◌∙◌}
 use native.Mathlib.Omega.{arith}
-use borrow.Author.Rules.{rules}
 use Rattle.format.specs.Read.{map_read}
-use Rattle.cache.proofs.LawsFetch.{Holds, holds, fetch-refused, fetch-there, fetch-post}
+use Rattle.cache.proofs.LawsFetch.{holds, fetch-refused, fetch-there, fetch-post}
 use Rattle.cache.proofs.fetch.Goals as goal
 
 pub own_slot-requires : goal.own_slot-requires

@@ -1,6 +1,5 @@
 -- `judged` judges a buffer's length and an owner table, and finds the row of an instance. Assumes nothing.
 use native.Mathlib.Omega.{arith}
-use borrow.Author.Rules.{rules}
 use Rattle.cache.proofs.LawsJudged.{whole-size, judged-rows, no-multiple}
 use Rattle.cache.proofs.judged.Goals as goal
 

@@ -1,7 +1,6 @@
 -- `own_slot` judges the cache and finds the slot that an instance holds. Assumes nothing.
 use mathlib.Core.Path.{sym, ap, ◌∙◌}
 use native.Mathlib.Omega.{arith}
-use borrow.Author.Rules.{rules}
 use Rattle.cache.specs.declared.SlotRead.TheVariants as slot
 use Rattle.cache.specs.Calls.{slot_read}
 use Rattle.cache.proofs.LawsJudged.{below, as-slot, as_none, slot_of_row}

@@ -1,7 +1,6 @@
 -- `put` judges the cache and the file, and puts it. Assumes nothing.
 use mathlib.Core.Path.{refl, ap}
 use native.Mathlib.Omega.{arith}
-use borrow.Author.Rules.{rules}
 use Rattle.decoder.proofs.LawsRowViews.{measured}
 use Rattle.cache.specs.declared.SlotRead.TheVariants as slot
 use Rattle.cache.specs.Calls.{slot_read}
@@ -18,12 +17,11 @@ returns-in_default c =
     (put-stays _ _ _ _ _ _ _ _ (ap (λ x. slot_read (slot.Stop x)) c.stopped.ensures) (bad-answer _ _ _ b))
 
 pub put_accepted-requires : goal.put_accepted-requires
-put_accepted-requires c =
-    (
-      rw c.in-At.is at (c.judged.ensures c.args.cache.now refl),
-      measured _ _ (rw c.in-Got.is at c.measure.ensures.answer),
-      c.slot_size-size.ensures,
-    )
+put_accepted-requires c = (
+  rw c.in-At.is at (c.judged.ensures c.args.cache.now refl),
+  measured _ _ (rw c.in-Got.is at c.measure.ensures.answer),
+  c.slot_size-size.ensures,
+)
 
 pub returns-in-Stop : goal.returns-in-Stop
 returns-in-Stop c =

@@ -1,7 +1,6 @@
 -- `put_accepted` puts a file that is accepted, if it fits and there is a slot. Assumes nothing.
 use mathlib.Core.Path.{sym, ap, ◌∙◌}
 use native.Mathlib.Omega.{arith}
-use borrow.Author.Rules.{rules}
 use Rattle.cache.specs.declared.SlotRead.TheVariants as slot
 use Rattle.cache.specs.Calls.{slot_read}
 use Rattle.cache.proofs.LawsJudged.{below, slot-room, as-slot, as_none}

@@ -1,6 +1,5 @@
 -- `slot_for` is the row that the instance has, else the first free one. Assumes nothing.
 use native.Mathlib.Omega.{arith}
-use borrow.Author.Rules.{rules}
 use Rattle.cache.proofs.LawsJudged.{for-own, for-free}
 use Rattle.cache.proofs.slot_for.Goals as goal
 

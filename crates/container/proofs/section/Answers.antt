@@ -5,7 +5,6 @@ use borrow.Author.Tests.{not-true, not-false}
 use Rattle.container.specs.Container.{nowhere}
 use Rattle.container.proofs.LawsOpened.{held-stop, held-passed}
 use Rattle.container.proofs.LawsViews.{view-refused, view-there, view-absent, section-post}
-use borrow.Author.Rules.{rules}
 use Rattle.container.proofs.section.Goals as goal
 
 pub returns-then-not-place : goal.returns-then-not-place

@@ -1,6 +1,5 @@
 -- `measure` measures as the crate below does, and so as promised. Assumes nothing.
 use Rattle.decoder.proofs.LawsFile.{measure-post}
-use borrow.Author.Rules.{rules}
 use Rattle.decoder.proofs.measure.Goals as goal
 
 pub returns : goal.returns

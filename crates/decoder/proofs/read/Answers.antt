@@ -1,6 +1,5 @@
 -- `read` reads as the crate below does, and so as promised. Assumes nothing.
 use Rattle.decoder.proofs.LawsFile.{read-post}
-use borrow.Author.Rules.{rules}
 use Rattle.decoder.proofs.read.Goals as goal
 
 pub returns : goal.returns

@@ -1,7 +1,6 @@
 -- `convert_to_f8` meets its contract: the sign stands above a code of seven bits. Assumes nothing.
 use native.Mathlib.Omega.{arith}
 use Rattle.float8.proofs.Whole.{narrow, overflow-room, eight-nan, eight-zero, eight-number}
-use borrow.Author.Rules.{rules}
 use Rattle.float8.proofs.convert_to_f8.Goals as goal
 
 pub overflow_add-overflow : goal.overflow_add-overflow

@@ -1,7 +1,6 @@
 -- `nearest_code` meets its contract, by the laws of the bits so rounded. Assumes nothing.
 use native.Mathlib.Omega.{arith}
 use Rattle.float8.proofs.Narrowing.{within-reach, nearest-code}
-use borrow.Author.Rules.{rules}
 use Rattle.float8.proofs.nearest_code.Goals as goal
 
 pub overflow_add-shift : goal.overflow_add-shift

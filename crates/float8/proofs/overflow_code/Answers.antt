@@ -3,7 +3,6 @@ use mathlib.Core.Path.{◌≡◌, ap}
 use Prim.Native.Nat.{ℕ, ◌+◌, ◌^◌}
 use native.Mathlib.Omega.{arith}
 use lib.Pow.{pow_pos, high_ones}
-use borrow.Author.Rules.{rules}
 use Rattle.float8.proofs.overflow_code.Goals as goal
 
 pub overflow_sub-result : goal.overflow_sub-result

@@ -3,7 +3,6 @@ use Prim.Native.Nat.{◌-◌, ◌^◌, ◌≤◌}
 use lib.Pow.{pow_pos, pow_mono}
 use native.Mathlib.Omega.{arith}
 use Rattle.float8.proofs.Rounding.{by-sum}
-use borrow.Author.Rules.{rules}
 use Rattle.float8.proofs.round_shift_right_ties_even.Goals as goal
 
 pub overflow_sub-result : goal.overflow_sub-result

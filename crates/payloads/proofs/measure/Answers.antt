@@ -1,5 +1,4 @@
 -- `measure` is a pass on no stores. Assumes nothing.
-use borrow.Author.Rules.{rules}
 use Rattle.payloads.proofs.measure.Goals as goal
 
 pub returns : goal.returns

@@ -2,7 +2,6 @@
 use mathlib.Core.Path.{sym}
 use native.Mathlib.Omega.{arith}
 use Rattle.reading.proofs.LawsWord.{byte_word}
-use borrow.Author.Rules.{rules}
 use Rattle.reading.proofs.byte_at.Goals as goal
 
 pub overflow_cast-result : goal.overflow_cast-result
@@ -11,6 +10,6 @@ overflow_cast-result c = omega (arith, c.shared_slice_known-1.given c.args.at)
 pub returns : goal.returns
 returns c =
     record {
-  value = sym (byte_word _ _ c.requires);
-  fits = omega (arith, c.shared_slice_known-1.given c.args.at);
+      value = sym (byte_word _ _ c.requires);
+      fits = omega (arith, c.shared_slice_known-1.given c.args.at);
     }

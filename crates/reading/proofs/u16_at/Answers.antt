@@ -1,7 +1,6 @@
 -- `u16_at` answers the number of two bytes: its halves side by side. Assumes nothing.
 use native.Mathlib.Omega.{arith}
 use Rattle.reading.proofs.LawsWord.{word-join}
-use borrow.Author.Rules.{rules}
 use Rattle.reading.proofs.u16_at.Goals as goal
 
 pub returns : goal.returns

@@ -1,7 +1,6 @@
 -- `u64_at` answers the number of eight bytes: its halves side by side. Assumes nothing.
 use native.Mathlib.Omega.{arith}
 use Rattle.reading.proofs.LawsWord.{word-join}
-use borrow.Author.Rules.{rules}
 use Rattle.reading.proofs.u64_at.Goals as goal
 
 pub returns : goal.returns

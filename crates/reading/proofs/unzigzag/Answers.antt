@@ -3,7 +3,6 @@ use mathlib.Core.Path.{◌∙◌}
 use native.Mathlib.Omega.{arith}
 use mir.Syntax.{w64}
 use Rattle.reading.proofs.LawsSigned.{settled, signed-fits, unzigzag-even, unzigzag-odd}
-use borrow.Author.Rules.{rules}
 use Rattle.reading.proofs.unzigzag.Goals as goal
 
 pub returns-then-v-eq0 : goal.returns-then-v-eq0

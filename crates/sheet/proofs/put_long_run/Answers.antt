@@ -1,7 +1,6 @@
 -- `put_long_run` stores a run that has room, and else nothing. Assumes nothing.
 use mathlib.Core.Path.{sym}
 use native.Mathlib.Omega.{arith}
-use borrow.Author.Rules.{rules}
 use Rattle.encoding.proofs.LawsOut.{put_full}
 use Rattle.sheet.proofs.put_long_run.Goals as goal
 

@@ -1,9 +1,7 @@
 -- `put_word` stores the word where there is room for it. Assumes nothing.
 use mathlib.Core.Path.{sym, ◌∙◌}
-use Prim.Native.Nat.{◌+◌, ◌-◌, ◌*◌, ◌<◌}
+use Prim.Native.Nat.{◌+◌, ◌-◌, ◌*◌}
 use native.Mathlib.Omega.{arith}
-use lib.ListN.{length}
-use borrow.Author.Rules.{rules}
 use Rattle.exact.specs.Fixed.{bytes_of}
 use Rattle.exact.proofs.LawsFixed.{length-bytes_of}
 use Rattle.encoding.proofs.LawsOut.{put_full}

@@ -3,7 +3,6 @@ use mathlib.Core.Path.{sym, ◌∙◌}
 use Rattle.exact.proofs.LawsExact.{stop-not-got, got-value}
 use Rattle.reading.proofs.LawsShown.{told-num}
 use Rattle.sheet.proofs.LawsWords.{no_word, word_read}
-use borrow.Author.Rules.{rules}
 use Rattle.sheet.proofs.word_at.Goals as goal
 
 pub returns-then-store-i : goal.returns-then-store-i

@@ -1,11 +1,8 @@
 -- `is_magic` compares byte by byte (`Alike`). Assumes nothing.
 use mathlib.Core.Path.{◌≡◌}
-use Prim.Native.Nat.{◌-◌, ◌≤◌}
 use native.Mathlib.Omega.{arith}
 use native.Mathlib.Nat.{add-zero}
-use Rattle.enums.specs.Container as container
-use Rattle.container.proofs.LawsMagic.{Alike, alike-more, alike-not, alike_all}
-use borrow.Author.Rules.{rules}
+use Rattle.container.proofs.LawsMagic.{alike-more, alike-not, alike_all}
 use Rattle.container.proofs.sections.is_magic.Goals as goal
 
 pub loop-i-init : goal.loop-i-init

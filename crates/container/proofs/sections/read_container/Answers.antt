@@ -4,7 +4,6 @@ use Rattle.container.specs.Container.{held_container}
 use Rattle.container.proofs.LawsShown.{told-version}
 use Rattle.container.proofs.LawsOpened.{raw-stop, raw-end}
 use Rattle.container.proofs.LawsOpened.{opened-limit, opened-header, opened-sections, opened-got}
-use borrow.Author.Rules.{rules}
 use Rattle.container.proofs.sections.read_container.Goals as goal
 
 pub returns-then-file-gt-MOST_BYTES : goal.returns-then-file-gt-MOST_BYTES

@@ -1,6 +1,5 @@
 -- `read_header` answers the version behind MAGIC; its steps follow `header_at`. Assumes nothing.
 use mathlib.Core.Path.{sym, ◌∙◌}
-use borrow.Author.Tests.{not-true, not-false}
 use Rattle.exact.specs.Got.{follow}
 use Rattle.exact.specs.Basic.{pure}
 use Rattle.exact.specs.Sequence.{bind, mapped}
@@ -8,7 +7,6 @@ use Rattle.reading.proofs.LawsWord.{fixed-one}
 use Rattle.reading.proofs.LawsShown.{told-byte, told-u16, told-bytes}
 use Rattle.format.specs.DecodeContainer.{header_at}
 use Rattle.container.proofs.LawsMagic.{magic-short, magic-in, magic-not, magic-yes}
-use borrow.Author.Rules.{rules}
 use Rattle.container.proofs.sections.read_header.Goals as goal
 
 pub is_magic-requires : goal.is_magic-requires

@@ -3,7 +3,6 @@ use lib.Bits.{and_mask}
 use Rattle.reading.proofs.LawsShown.{told-byte, told-num, told-padding}
 use Rattle.container.proofs.LawsItem.{header-no-byte, header-end, header-no-length}
 use Rattle.container.proofs.LawsItem.{header-no-alignment, header-got}
-use borrow.Author.Rules.{rules}
 use Rattle.container.proofs.sections.read_section_header.Goals as goal
 
 pub returns-then-id-eq-END_OF_BYTECODE : goal.returns-then-id-eq-END_OF_BYTECODE

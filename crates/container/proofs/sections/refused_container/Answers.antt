@@ -1,5 +1,4 @@
 -- `refused_container` answers a refusal, version 0.0 and no places. Assumes nothing.
-use borrow.Author.Rules.{rules}
 use Rattle.container.proofs.sections.refused_container.Goals as goal
 
 pub returns : goal.returns

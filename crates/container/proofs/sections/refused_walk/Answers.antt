@@ -1,5 +1,4 @@
 -- `refused_walk` answers a refusal and no places. Assumes nothing.
-use borrow.Author.Rules.{rules}
 use Rattle.container.proofs.sections.refused_walk.Goals as goal
 
 pub returns : goal.returns

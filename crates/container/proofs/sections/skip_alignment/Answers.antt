@@ -2,7 +2,6 @@
 use mathlib.Core.Path.{◌∙◌}
 use Rattle.reading.proofs.LawsShown.{told-num}
 use Rattle.container.proofs.LawsItem.{alignment-none, alignment-stop, alignment-got}
-use borrow.Author.Rules.{rules}
 use Rattle.container.proofs.sections.skip_alignment.Goals as goal
 
 pub returns-then-id_and_align-lt128 : goal.returns-then-id_and_align-lt128

@@ -1,5 +1,4 @@
 -- `payload_place` takes the place of the section that has the rows. Assumes nothing.
-use borrow.Author.Rules.{rules}
 use Rattle.decoder.proofs.views.payload_place.Goals as goal
 
 pub returns : goal.returns

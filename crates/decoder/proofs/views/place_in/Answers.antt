@@ -1,5 +1,4 @@
 -- `place_in` asks the finder of its kind of rows. Assumes nothing.
-use borrow.Author.Rules.{rules}
 use Rattle.decoder.proofs.views.place_in.Goals as goal
 
 pub returns-in-String : goal.returns-in-String

@@ -1,6 +1,5 @@
 -- `row` judges the whole file first. Assumes nothing.
 use Rattle.decoder.proofs.LawsRowViews.{view-refused, measured, row-post}
-use borrow.Author.Rules.{rules}
 use Rattle.decoder.proofs.views.row.Goals as goal
 
 pub accepted_row-requires : goal.accepted_row-requires

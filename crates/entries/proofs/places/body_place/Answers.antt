@@ -3,7 +3,6 @@ use mathlib.Core.Path.{sym}
 use Rattle.reading.proofs.LawsNumbers.{varint-in}
 use Rattle.reading.proofs.LawsShown.{told-num}
 use Rattle.entries.proofs.LawsPlaces.{finds-stop, finds-as, bodies-refused, bodies-counted}
-use borrow.Author.Rules.{rules}
 use Rattle.entries.proofs.places.body_place.Goals as goal
 
 pub find_body-requires : goal.find_body-requires

@@ -1,6 +1,5 @@
 -- `constant_place` finds a constant in its table. Assumes nothing.
 use Rattle.format.specs.DecodeTables.{constants_at}
-use borrow.Author.Rules.{rules}
 use Rattle.entries.proofs.places.constant_place.Goals as goal
 
 pub returns : goal.returns

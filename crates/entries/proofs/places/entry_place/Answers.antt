@@ -4,7 +4,6 @@ use Rattle.reading.proofs.LawsShown.{told}
 use Rattle.entries.specs.Starts.{got_starts}
 use Rattle.entries.proofs.LawsEntries.{starts-lie}
 use Rattle.entries.proofs.LawsPlaces.{finds-stop, finds-as, table-stop, table_got}
-use borrow.Author.Rules.{rules}
 use Rattle.entries.proofs.places.entry_place.Goals as goal
 
 pub find_entry-requires : goal.find_entry-requires

@@ -1,13 +1,10 @@
 -- `find_body` passes over all functions, and keeps where the body asked for stands. Assumes nothing.
 use mathlib.Core.Path.{◌≡◌, sym, ap}
-use mathlib.Core.Logic.{⊎_elim}
-use Prim.Native.Nat.{suc, ◌+◌, ◌-◌, ◌≤◌}
+use Prim.Native.Nat.{suc, ◌+◌, ◌-◌}
 use native.Mathlib.Omega.{arith}
-use lib.ListN.{length}
 use Rattle.entries.specs.Places.{bodies_from}
 use Rattle.entries.proofs.LawsRows.{function-in, func-told}
-use Rattle.entries.proofs.LawsPlaces.{Seeking, seek-none, seek_stop, seek-end, seek-here, seek-past, bodies-none, bodies-stop, bodies-more}
-use borrow.Author.Rules.{rules}
+use Rattle.entries.proofs.LawsPlaces.{seek-none, seek_stop, seek-end, seek-here, seek-past, bodies-none, bodies-stop, bodies-more}
 use Rattle.entries.proofs.places.find_body.Goals as goal
 use Rattle.entries.proofs.places.find_body.Goals.{then-i-n, else-i-n}
 
@@ -45,7 +42,7 @@ loop-i-preserved c =
     let q = function-in _ _ _ _ l.invariant.1 (e 0) in
     let b = bodies-more _ _ _ _ _ _ m e in (
       elim c.if-i-n.branch [
-        then-i-n w ↦ seek-here _ _ _ _ _ _ l.invariant.0 _ _ _ b (sym w.if-i-n.true) _ (omega (arith, q.1)) _ w.found-is
+        | then-i-n w ↦ seek-here _ _ _ _ _ _ l.invariant.0 _ _ _ b (sym w.if-i-n.true) _ (omega (arith, q.1)) _ w.found-is
         | else-i-n w ↦ seek-past _ _ _ _ _ _ l.invariant.0 _ _ _ b (λ h. w.if-i-n.false (sym h)) _ w.found-is
       ],
       q.2,

@@ -2,16 +2,13 @@
 use mathlib.Core.Path.{◌≡◌, sym}
 use Prim.Native.Nat.{suc, ◌+◌, ◌-◌, ◌≤◌}
 use native.Mathlib.Omega.{arith}
-use mathlib.Core.Logic.{⊎_elim}
 use lib.ListN.{drop, length-drop}
 use lib.Seq.{length-slice}
 use Rattle.reading.proofs.LawsShown.{told}
-use Rattle.entries.specs.Starts.{wide, got_entry}
-use Rattle.entries.specs.Places.{entries_in}
+use Rattle.entries.specs.Starts.{got_entry}
 use Rattle.entries.proofs.LawsStarts.{wide-some, end-got}
-use Rattle.entries.proofs.LawsEntries.{Before, before-next}
-use Rattle.entries.proofs.LawsPlaces.{Seeking, seek-entries, seek_stop, seek-end, seek-here, seek-past, rows_left, rows_none, rows-bad, rows-good}
-use borrow.Author.Rules.{rules}
+use Rattle.entries.proofs.LawsEntries.{before-next}
+use Rattle.entries.proofs.LawsPlaces.{seek-entries, seek_stop, seek-end, seek-here, seek-past, rows_none, rows-bad, rows-good}
 use Rattle.entries.proofs.places.find_entry.Goals as goal
 use Rattle.entries.proofs.places.find_entry.Goals.{then-i-n, else-i-n}
 
@@ -62,7 +59,7 @@ loop-i-preserved c =
     let r = rows-good _ _ _ _ some _ (sym d) _ _ _ _ m l.invariant.0 _ _ e in (
       (before-next _ _ _ some _ _ _ _ _ _ m l.invariant.0 f).0,
       elim c.if-i-n.branch [
-        then-i-n w ↦ seek-here _ _ _ _ _ _ l.invariant.1 _ _ _ r (sym w.if-i-n.true) _ (sym x) _ w.found-is
+        | then-i-n w ↦ seek-here _ _ _ _ _ _ l.invariant.1 _ _ _ r (sym w.if-i-n.true) _ (sym x) _ w.found-is
         | else-i-n w ↦ seek-past _ _ _ _ _ _ l.invariant.1 _ _ _ r (λ h. w.if-i-n.false (sym h)) _ w.found-is
       ],
       omega arith,

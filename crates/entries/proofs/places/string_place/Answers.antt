@@ -1,6 +1,5 @@
 -- `string_place` finds a string in its table. Assumes nothing.
 use Rattle.format.specs.DecodeTables.{strings_at}
-use borrow.Author.Rules.{rules}
 use Rattle.entries.proofs.places.string_place.Goals as goal
 
 pub returns : goal.returns

@@ -1,7 +1,6 @@
 -- `parse_producer` follows the model. Assumes nothing.
 use Rattle.reading.proofs.LawsShown.{told-num}
 use Rattle.entries.proofs.LawsProducer.{producer-stop, producer-in, producer-out}
-use borrow.Author.Rules.{rules}
 use Rattle.entries.proofs.rows.parse_producer.Goals as goal
 
 pub returns-then-index-strings : goal.returns-then-index-strings

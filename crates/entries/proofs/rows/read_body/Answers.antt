@@ -2,7 +2,6 @@
 use mathlib.Core.Path.{sym}
 use Rattle.reading.proofs.LawsShown.{told-num, told-bytes}
 use Rattle.entries.proofs.LawsRows.{body-got, body-short, body-stop}
-use borrow.Author.Rules.{rules}
 use Rattle.entries.proofs.rows.read_body.Goals as goal
 
 pub returns-in-Stop : goal.returns-in-Stop

@@ -9,7 +9,6 @@ use Rattle.entries.proofs.LawsRows.{
   function-hints,
   function-body,
 }
-use borrow.Author.Rules.{rules}
 use Rattle.entries.proofs.rows.read_func.Goals as goal
 
 pub returns-then-flags-eq1 : goal.returns-then-flags-eq1

@@ -11,7 +11,6 @@ use Rattle.entries.proofs.LawsRows.{
   linked-got,
   linked-stop,
 }
-use borrow.Author.Rules.{rules}
 use Rattle.entries.proofs.rows.read_global.Goals as goal
 
 pub returns-in-Stop : goal.returns-in-Stop

@@ -2,7 +2,6 @@
 use mathlib.Core.Path.{sym, ◌∙◌}
 use Rattle.reading.proofs.LawsShown.{told-byte, told-num}
 use Rattle.entries.proofs.LawsRows.{linkage-none, linkage-no-byte, linkage-no-flag, linkage-both}
-use borrow.Author.Rules.{rules}
 use Rattle.entries.proofs.rows.read_linkage.Goals as goal
 
 pub returns-in-Stop : goal.returns-in-Stop

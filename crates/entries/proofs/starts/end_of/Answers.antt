@@ -1,10 +1,8 @@
 -- `end_of` judges the bounds of an entry. Assumes nothing.
 use mathlib.Core.Path.{◌∙◌}
 use native.Mathlib.Omega.{arith}
-use mathlib.Core.Logic.{⊎_elim, inl, inr}
-use borrow.Author.Tests.{ltb-true, ltb-false}
+use mathlib.Core.Logic.{inl, inr}
 use Rattle.entries.proofs.LawsStarts.{end-outside, end_short, end-good, end_none, end_empty}
-use borrow.Author.Rules.{rules}
 use Rattle.entries.proofs.starts.end_of.Goals as goal
 use Rattle.entries.proofs.starts.end_of.Goals.{then-end-start-2-via-then-end-start-2, then-end-start-2-via-else-end-start-2+then-least-gt0}
 
@@ -19,7 +17,7 @@ returns-then-end-start-2 c =
     c.out_of_bounds-then-end-start-2.ensures ∙
     end_none _ _ _ _ _ _ _ _ e c.if-end-start.true
     (elim c.then-end-start-2.branch [
-      then-end-start-2-via-then-end-start-2 w ↦ inl w.if-end-start-2.true
+      | then-end-start-2-via-then-end-start-2 w ↦ inl w.if-end-start-2.true
       | then-end-start-2-via-else-end-start-2+then-least-gt0 w ↦ inr w.if-least-gt0.true
     ])
 

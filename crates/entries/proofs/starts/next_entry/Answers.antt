@@ -1,7 +1,6 @@
 -- `next_entry` answers what `end_of` answers, in its own unit. Assumes nothing.
 use mathlib.Core.Path.{sym}
 use Rattle.reading.proofs.LawsShown.{told-num}
-use borrow.Author.Rules.{rules}
 use Rattle.entries.proofs.starts.next_entry.Goals as goal
 
 pub returns-in-Stop : goal.returns-in-Stop

@@ -1,7 +1,6 @@
 -- `number_or` answers the number that is there, or the other. Assumes nothing.
 use Rattle.reading.proofs.LawsShown.{told-num}
 use Rattle.entries.proofs.LawsStarts.{number_read, number-other}
-use borrow.Author.Rules.{rules}
 use Rattle.entries.proofs.starts.number_or.Goals as goal
 
 pub returns-in-Stop : goal.returns-in-Stop

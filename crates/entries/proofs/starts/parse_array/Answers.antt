@@ -2,7 +2,6 @@
 use mathlib.Core.Path.{◌∙◌}
 use Rattle.reading.proofs.LawsShown.{told-num}
 use Rattle.entries.proofs.LawsStarts.{array-stop, array-got}
-use borrow.Author.Rules.{rules}
 use Rattle.entries.proofs.starts.parse_array.Goals as goal
 
 pub returns-in-Stop : goal.returns-in-Stop

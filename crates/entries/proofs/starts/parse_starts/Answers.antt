@@ -3,7 +3,6 @@ use mathlib.Core.Path.{◌∙◌}
 use Rattle.exact.specs.Fixed.{nums}
 use Rattle.reading.proofs.LawsShown.{told-num}
 use Rattle.entries.proofs.LawsStarts.{count-stop, count_none, count-some}
-use borrow.Author.Rules.{rules}
 use Rattle.entries.proofs.starts.parse_starts.Goals as goal
 
 pub returns-then-count-eq0 : goal.returns-then-count-eq0

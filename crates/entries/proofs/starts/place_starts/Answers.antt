@@ -1,7 +1,6 @@
 -- `place_starts` answers where the starts stand, or where the first is cut. Assumes nothing.
 use native.Mathlib.Omega.{arith}
 use Rattle.entries.proofs.LawsStarts.{wide-some, starts-room, starts_fit, starts-placed, starts-short}
-use borrow.Author.Rules.{rules}
 use Rattle.entries.proofs.starts.place_starts.Goals as goal
 
 pub nonzero_div-room : goal.nonzero_div-room

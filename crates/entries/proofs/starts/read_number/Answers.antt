@@ -1,7 +1,6 @@
 -- `read_number` answers the number of the width asked for. Assumes nothing.
 use mathlib.Core.Path.{sym}
 use Rattle.reading.proofs.LawsShown.{told-u32}
-use borrow.Author.Rules.{rules}
 use Rattle.entries.proofs.starts.read_number.Goals as goal
 
 pub returns-in-Eight : goal.returns-in-Eight

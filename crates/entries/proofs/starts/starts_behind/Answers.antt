@@ -2,7 +2,6 @@
 use mathlib.Core.Path.{◌∙◌}
 use Rattle.reading.proofs.LawsShown.{told-padding}
 use Rattle.entries.proofs.LawsStarts.{padding-stop, padding-got}
-use borrow.Author.Rules.{rules}
 use Rattle.entries.proofs.starts.starts_behind.Goals as goal
 
 pub returns-in-Stop : goal.returns-in-Stop

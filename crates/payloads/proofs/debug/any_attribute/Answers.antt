@@ -1,12 +1,8 @@
 -- `any_attribute` answers for a whole attribute that has no word, and for one of short numbers that is put, and has any
 -- other read. Assumes nothing.
-use mathlib.Core.Path.{◌≡◌, ap, ◌∙◌}
-use mathlib.Core.Logic.{⊎_elim}
-use native.Mathlib.Omega.{arith}
-use lib.ListN.{length}
+use mathlib.Core.Path.{◌∙◌}
 use Rattle.payloads.proofs.LawsEnds.{whole_row}
 use Rattle.payloads.proofs.LawsShorts.{short_row, row_from}
-use borrow.Author.Rules.{rules}
 use Rattle.payloads.proofs.debug.any_attribute.Goals as goal
 use Rattle.payloads.proofs.debug.any_attribute.Goals.{then-sheet-word+else-is_whole, else-sheet-word+else-put_short}
 
@@ -24,7 +20,7 @@ returns-then-put_short c =
 pub returns : goal.returns
 returns c =
     elim c.if-sheet-word.branch [
-      then-sheet-word+else-is_whole w ↦ row_from _ _ _ _ _ _ w.sheet-is c.parse_attribute.ensures
+      | then-sheet-word+else-is_whole w ↦ row_from _ _ _ _ _ _ w.sheet-is c.parse_attribute.ensures
       | else-sheet-word+else-put_short w ↦
           row_from _ _ _ _ _ _ (w.sheet-is ∙ w.put_short.ensures.sheet_unchanged w.if-put_short.false) c.parse_attribute.ensures
     ]

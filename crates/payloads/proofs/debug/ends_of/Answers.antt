@@ -1,10 +1,8 @@
 -- `ends_of` counts byte by byte (`ends-turn`), and fewer numbers than that can be read. Assumes nothing.
-use mathlib.Core.Path.{◌≡◌}
-use Prim.Native.Nat.{◌+◌, ◌-◌, ◌≤◌}
+use Prim.Native.Nat.{◌≤◌}
 use native.Mathlib.Omega.{arith}
-use lib.ListN.{length, take}
-use Rattle.payloads.proofs.LawsEnds.{ends, ends-turn, ends-over, ends_read}
-use borrow.Author.Rules.{rules}
+use lib.ListN.{length}
+use Rattle.payloads.proofs.LawsEnds.{ends-turn, ends-over, ends_read}
 use Rattle.payloads.proofs.debug.ends_of.Goals as goal
 
 pub loop-k-init : goal.loop-k-init

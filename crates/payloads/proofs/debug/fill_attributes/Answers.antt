@@ -1,21 +1,16 @@
 -- `fill_attributes` reads entry after entry: whatever reading the rest leaves, reading them all leaves it. Assumes nothing.
 use mathlib.Core.Path.{◌≡◌, refl, ◌∙◌}
-use Prim.Native.Nat.{ℕ, suc, ◌+◌, ◌-◌, ◌*◌, ◌≤◌}
+use Prim.Native.Nat.{suc, ◌-◌}
 use native.Mathlib.Omega.{arith}
-use mathlib.Core.List.{List}
-use lib.ListN.{length}
 use Rattle.reading.proofs.LawsShown.{told}
 use Rattle.format.specs.DecodeDebug.{attribute_at}
 use Rattle.format.specs.Sheet.{attribute_words}
 use Rattle.entries.specs.Starts.{got_entry}
 use Rattle.entries.proofs.LawsStarts.{end-got}
-use Rattle.entries.proofs.LawsEntries.{rest-length, Before, before-next}
-use Rattle.payloads.specs.declared.fields.SpotRead.{SpotRead}
-use Rattle.payloads.specs.TypeRows.{Row}
-use Rattle.payloads.proofs.LawsEntryRows.{words_left, words-done, words-bad, words-stop, words_more, words-all, words-as}
+use Rattle.entries.proofs.LawsEntries.{rest-length, before-next}
+use Rattle.payloads.proofs.LawsEntryRows.{words-done, words-bad, words-stop, words_more, words-all, words-as}
 use Rattle.payloads.proofs.LawsTypeEntries.{row_told}
 use Rattle.payloads.proofs.LawsDebug.{attribute-inside, seven}
-use borrow.Author.Rules.{rules}
 use Rattle.payloads.proofs.debug.fill_attributes.Goals as goal
 
 pub slice_bounds-run-count : goal.slice_bounds-run-count

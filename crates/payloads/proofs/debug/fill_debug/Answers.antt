@@ -3,7 +3,6 @@ use native.Mathlib.Omega.{arith}
 use Rattle.entries.proofs.LawsEntries.{starts-few}
 use Rattle.payloads.proofs.LawsTypeEntries.{row_told}
 use Rattle.payloads.proofs.LawsDebug.{attributes-word, attributes-refused, lists-refused, debug-filled}
-use borrow.Author.Rules.{rules}
 use Rattle.payloads.proofs.debug.fill_debug.Goals as goal
 
 pub fill_attributes-requires : goal.fill_attributes-requires

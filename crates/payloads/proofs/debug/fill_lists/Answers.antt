@@ -1,8 +1,7 @@
 -- `fill_lists` puts the lists one by one: whatever the rest leaves, all of them leave it. Assumes nothing.
 use mathlib.Core.Path.{◌≡◌, refl, sym, ap, ◌∙◌}
-use Prim.Native.Nat.{ℕ, suc, ◌+◌, ◌-◌, ◌≤◌}
+use Prim.Native.Nat.{suc, ◌-◌, ◌≤◌}
 use native.Mathlib.Omega.{arith}
-use mathlib.Core.List.{List}
 use lib.ListN.{length, drop}
 use Rattle.exact.specs.Fixed.{nums}
 use Rattle.exact.proofs.LawsFixed.{length-nums}
@@ -10,13 +9,10 @@ use Rattle.sheet.proofs.LawsStore.{length-put_words}
 use Rattle.reading.proofs.LawsShown.{told}
 use Rattle.entries.specs.Starts.{got_list}
 use Rattle.entries.proofs.LawsStarts.{end-got}
-use Rattle.entries.proofs.LawsEntries.{starts-few, Before, before-next}
-use Rattle.payloads.specs.declared.fields.SpotRead.{SpotRead}
-use Rattle.payloads.specs.TypeRows.{Row}
+use Rattle.entries.proofs.LawsEntries.{starts-few, before-next}
 use Rattle.payloads.proofs.LawsWords.{length-put_word}
 use Rattle.payloads.proofs.LawsEntryRows.{words-as}
-use Rattle.payloads.proofs.LawsDebug.{ids-inside, ids-are, lists_left, lists-done, lists-bad, lists-more, lists-all}
-use borrow.Author.Rules.{rules}
+use Rattle.payloads.proofs.LawsDebug.{ids-inside, ids-are, lists-done, lists-bad, lists-more, lists-all}
 use Rattle.payloads.proofs.debug.fill_lists.Goals as goal
 
 pub slice_bounds-run-count : goal.slice_bounds-run-count

@@ -7,7 +7,6 @@ use lib.ListN.{get_or}
 use Rattle.enums.specs.Debug.{field_counts}
 use borrow.Author.Tests.{ltb-true}
 use Rattle.payloads.proofs.LawsEnds.{entry_whole}
-use borrow.Author.Rules.{rules}
 use Rattle.payloads.proofs.debug.is_whole.Goals as goal
 
 pub returns-then-size-gt-WINDOW : goal.returns-then-size-gt-WINDOW

@@ -6,7 +6,6 @@ use Rattle.reading.proofs.LawsShown.{told-byte}
 use Rattle.reading.proofs.LawsInside.{byte-in}
 use Rattle.payloads.proofs.LawsDebug.{count-few, one-short, one-unknown, fields_at, put-told, attribute-refused, attribute-word, attribute-row}
 use Rattle.payloads.proofs.LawsEntryRows.{row-stop}
-use borrow.Author.Rules.{rules}
 use Rattle.payloads.proofs.debug.parse_attribute.Goals as goal
 
 pub returns-then-tag-ge7 : goal.returns-then-tag-ge7

@@ -4,7 +4,6 @@ use Rattle.reading.proofs.LawsShown.{told}
 use Rattle.entries.specs.Starts.{got_starts}
 use Rattle.entries.proofs.LawsEntries.{array_lies}
 use Rattle.payloads.proofs.LawsDebug.{debug-stop, debug-as, starts-refused, ids-refused, offsets-refused, offsets-got}
-use borrow.Author.Rules.{rules}
 use Rattle.payloads.proofs.debug.parse_debug_section.Goals as goal
 
 pub fill_debug-requires : goal.fill_debug-requires

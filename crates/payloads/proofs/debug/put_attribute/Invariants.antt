@@ -1,12 +1,8 @@
 -- `put_attribute` puts the tag, and the fields one by one. Assumes nothing.
-use mathlib.Core.Path.{◌≡◌, refl, sym, ap, ◌∙◌}
+use mathlib.Core.Path.{◌≡◌}
 use Prim.Native.Nat.{◌+◌, ◌-◌, ◌≤◌}
-use native.Mathlib.Omega.{arith}
 use lib.ListN.{length, drop}
 use Rattle.sheet.specs.Store.{put_words}
-use Rattle.payloads.proofs.LawsWords.{length-put_word}
-use Rattle.payloads.proofs.LawsShorts.{row-begun, row_more, row_done, row-tagged}
-use borrow.Author.Rules.{rules}
 use Rattle.payloads.proofs.debug.put_attribute.Given as goal
 
 abbrev pub invariant-loop-k : goal.invariant-loop-k

@@ -4,7 +4,6 @@ use Prim.Native.Nat.{◌-◌, ◌*◌}
 use Rattle.exact.specs.Fixed.{nums}
 use Rattle.sheet.specs.Store.{put_words}
 use Rattle.payloads.proofs.LawsArrays.{rest_all, nums-from}
-use borrow.Author.Rules.{rules}
 use Rattle.payloads.proofs.debug.put_ids.Goals as goal
 
 pub returns : goal.returns

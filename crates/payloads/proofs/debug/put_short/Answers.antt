@@ -7,7 +7,6 @@ use native.Mathlib.Omega.{arith}
 use lib.ListN.{get_or}
 use Rattle.payloads.specs.Shorts.{shorts}
 use Rattle.payloads.proofs.LawsShorts.{short-attribute}
-use borrow.Author.Rules.{rules}
 use Rattle.payloads.proofs.debug.put_short.Goals as goal
 
 pub returns-then-data-start-lt13 : goal.returns-then-data-start-lt13

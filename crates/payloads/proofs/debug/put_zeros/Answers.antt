@@ -1,12 +1,9 @@
 -- `put_zeros` puts zeros one by one: what the rest puts, all of them put. Assumes nothing.
-use mathlib.Core.Path.{◌≡◌, refl, sym, ap, ◌∙◌}
-use Prim.Native.Nat.{◌+◌}
+use mathlib.Core.Path.{refl, sym, ap, ◌∙◌}
 use native.Mathlib.Omega.{arith}
-use lib.ListN.{length, replicate}
-use Rattle.sheet.specs.Store.{put_words}
+use lib.ListN.{length}
 use Rattle.payloads.proofs.LawsWords.{length-put_word}
 use Rattle.payloads.proofs.LawsDebug.{zeros-done, zeros-more}
-use borrow.Author.Rules.{rules}
 use Rattle.payloads.proofs.debug.put_zeros.Goals as goal
 
 pub loop-left-init : goal.loop-left-init

@@ -1,12 +1,8 @@
 -- `put_zeros` puts zeros one by one: what the rest puts, all of them put. Assumes nothing.
-use mathlib.Core.Path.{◌≡◌, refl, sym, ap, ◌∙◌}
+use mathlib.Core.Path.{◌≡◌}
 use Prim.Native.Nat.{◌+◌}
-use native.Mathlib.Omega.{arith}
 use lib.ListN.{length, replicate}
 use Rattle.sheet.specs.Store.{put_words}
-use Rattle.payloads.proofs.LawsWords.{length-put_word}
-use Rattle.payloads.proofs.LawsDebug.{zeros-done, zeros-more}
-use borrow.Author.Rules.{rules}
 use Rattle.payloads.proofs.debug.put_zeros.Given as goal
 
 abbrev pub invariant-loop-left : goal.invariant-loop-left

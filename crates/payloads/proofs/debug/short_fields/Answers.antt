@@ -1,13 +1,11 @@
 -- `short_fields` turns six times: what it has found and what is left make up the whole (`Going`). Assumes nothing.
 use mathlib.Core.Path.{refl}
-use mathlib.Core.Logic.{⊎_elim}
-use Prim.Native.Nat.{ℕ, ◌+◌, ◌-◌, ◌<◌}
+use Prim.Native.Nat.{ℕ, ◌+◌, ◌<◌}
 use mathlib.Core.List.{List}
 use native.Mathlib.Omega.{arith}
 use lib.ListN.{get_or}
 use Rattle.payloads.specs.Shorts.{high_at}
-use Rattle.payloads.proofs.LawsShorts.{high_small, Going, going-begun, going-over, going_more, going-past}
-use borrow.Author.Rules.{rules}
+use Rattle.payloads.proofs.LawsShorts.{high_small, going-begun, going-over, going_more, going-past}
 use Rattle.payloads.proofs.debug.short_fields.Goals as goal
 use Rattle.payloads.proofs.debug.short_fields.Goals.{then-k-count, else-k-count}
 
@@ -37,16 +35,27 @@ pub overflow_mul-high : goal.overflow_mul-high
 overflow_mul-high c = omega (arith, c.type_inv.data c.loop-k.end)
 
 pub overflow_mul-high-in-loop-k : goal.overflow_mul-high-in-loop-k
-overflow_mul-high-in-loop-k c = omega (arith, small c.args.«data».now c.loop-k.end (omega (arith, c.type_inv.data c.loop-k.end))
-    (omega (arith, c.type_inv.data (c.loop-k.end + 1))))
+overflow_mul-high-in-loop-k c = omega (
+  arith,
+  small c.args.«data».now c.loop-k.end (omega (arith, c.type_inv.data c.loop-k.end))
+      (omega (arith, c.type_inv.data (c.loop-k.end + 1))),
+)
 
 pub overflow_add-value : goal.overflow_add-value
-overflow_add-value c = omega (arith, small c.args.«data».now c.loop-k.end (omega (arith, c.type_inv.data c.loop-k.end))
-    (omega (arith, c.type_inv.data (c.loop-k.end + 1))))
+overflow_add-value c = omega (
+  arith,
+  small c.args.«data».now c.loop-k.end (omega (arith, c.type_inv.data c.loop-k.end))
+      (omega (arith, c.type_inv.data (c.loop-k.end + 1))),
+)
 
 pub overflow_add-long : goal.overflow_add-long
-overflow_add-long c = let l = c.loop-k in omega (arith, l.invariant.few, l.invariant.turns, small c.args.«data».now c.loop-k.end (omega (arith, c.type_inv.data c.loop-k.end))
-    (omega (arith, c.type_inv.data (c.loop-k.end + 1))))
+overflow_add-long c = let l = c.loop-k in omega (
+  arith,
+  l.invariant.few,
+  l.invariant.turns,
+  small c.args.«data».now c.loop-k.end (omega (arith, c.type_inv.data c.loop-k.end))
+      (omega (arith, c.type_inv.data (c.loop-k.end + 1))),
+)
 
 pub overflow_add-end : goal.overflow_add-end
 overflow_add-end c = omega (arith, c.type_inv.data c.loop-k.end)
@@ -63,7 +72,7 @@ loop-k-preserved c =
     let first : get_or c.args.«data».now l.end 0 < 256 = omega (arith, c.type_inv.data l.end) in
     let second : get_or c.args.«data».now (l.end + 1) 0 < 256 = omega (arith, c.type_inv.data (l.end + 1)) in
     elim c.if-k-count.branch [
-      then-k-count w ↦
+      | then-k-count w ↦
           going_more _ _ _ _ _ _ _ l.invariant _ _ _ more first second w.if-k-count.true w.end-is w.long-is w.value-is
       | else-k-count w ↦ going-past _ _ _ _ _ _ _ l.invariant _ _ _ more w.if-k-count.false w.end-is w.long-is w.value-is
     ]

@@ -1,12 +1,6 @@
 -- `short_fields` turns six times: what it has found and what is left make up the whole (`Going`). Assumes nothing.
-use mathlib.Core.Path.{refl}
-use mathlib.Core.Logic.{⊎_elim}
-use Prim.Native.Nat.{◌+◌, ◌-◌, ◌<◌}
-use native.Mathlib.Omega.{arith}
-use lib.ListN.{get_or}
-use Rattle.payloads.specs.Shorts.{high_at}
-use Rattle.payloads.proofs.LawsShorts.{high_small, Going, going-begun, going-over, going_more, going-past}
-use borrow.Author.Rules.{rules}
+use Prim.Native.Nat.{◌-◌}
+use Rattle.payloads.proofs.LawsShorts.{Going}
 use Rattle.payloads.proofs.debug.short_fields.Given as goal
 
 abbrev pub invariant-loop-k : goal.invariant-loop-k

@@ -2,7 +2,6 @@
 use Rattle.payloads.specs.Fields.{number_at}
 use Rattle.payloads.proofs.LawsFields.{copied-as}
 use Rattle.payloads.proofs.LawsTypes.{byte-if}
-use borrow.Author.Rules.{rules}
 use Rattle.payloads.proofs.fields.copy_byte_if.Goals as goal
 
 pub returns : goal.returns

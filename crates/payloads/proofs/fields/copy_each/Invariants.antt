@@ -1,17 +1,12 @@
 -- `copy_each` copies as many varints as are asked for: whatever copying the rest leaves, copying them all leaves it.
 -- Assumes nothing.
-use mathlib.Core.Path.{◌≡◌, refl, sym, ap, ◌∙◌}
+use mathlib.Core.Path.{◌≡◌}
 use Prim.Native.Nat.{ℕ, ◌+◌, ◌≤◌}
-use native.Mathlib.Omega.{arith}
 use mathlib.Core.List.{List}
 use lib.ListN.{length}
-use Rattle.payloads.proofs.LawsWords.{length-put_word}
-use Rattle.reading.proofs.LawsShown.{told-num}
 use Rattle.payloads.specs.declared.fields.Number.TheVariants.{Varint}
 use Rattle.payloads.specs.declared.fields.SpotRead.{SpotRead}
-use Rattle.payloads.specs.Fields.{number_at, numbers, Put}
-use Rattle.payloads.proofs.LawsFields.{number_in, numbers-done, numbers-stop, numbers_more, within-got, within-refused}
-use borrow.Author.Rules.{rules}
+use Rattle.payloads.specs.Fields.{numbers, Put}
 use Rattle.payloads.proofs.fields.copy_each.Given as goal
 
 abbrev pub invariant-loop-left : goal.invariant-loop-left

@@ -2,7 +2,6 @@
 use native.Mathlib.Omega.{arith}
 use Rattle.reading.proofs.LawsShown.{told-num}
 use Rattle.payloads.proofs.LawsFields.{copied-stop, one-absent, one-there, one-stop, room_at, grows_same, grows-next, grows-stop, grows-refused}
-use borrow.Author.Rules.{rules}
 use Rattle.payloads.proofs.fields.copy_field.Goals as goal
 
 pub put_value-requires : goal.put_value-requires

@@ -5,7 +5,6 @@ use lib.ListN.{length, length-drop}
 use Rattle.exact.specs.Fixed.{nums}
 use Rattle.sheet.specs.Store.{put_words}
 use Rattle.payloads.proofs.LawsArrays.{several-fit, several-got, several-within, several-room, several-short, several-cut, rest_all, within-less}
-use borrow.Author.Rules.{rules}
 use Rattle.payloads.proofs.fields.copy_fixed.Goals as goal
 
 pub overflow_mul-broken : goal.overflow_mul-broken

@@ -1,6 +1,5 @@
 -- `copy_list` copies a count and as many numbers. Assumes nothing.
 use Rattle.payloads.proofs.LawsFields.{copied-told, grows-told, list-got, list-refused, room_next, grows-more}
-use borrow.Author.Rules.{rules}
 use Rattle.payloads.proofs.fields.copy_list.Goals as goal
 
 pub copy_numbers-requires : goal.copy_numbers-requires

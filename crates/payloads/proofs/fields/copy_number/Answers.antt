@@ -2,7 +2,6 @@
 use mathlib.Core.Path.{refl}
 use Rattle.payloads.specs.Fields.{number_at}
 use Rattle.payloads.proofs.LawsFields.{field-there, copied-as}
-use borrow.Author.Rules.{rules}
 use Rattle.payloads.proofs.fields.copy_number.Goals as goal
 
 pub returns : goal.returns

@@ -1,12 +1,9 @@
 -- `copy_numbers` copies numbers by how they stand. Assumes nothing.
 use mathlib.Core.Path.{refl}
-use native.Mathlib.Omega.{arith}
-use Rattle.exact.specs.Fixed.{fixed}
 use Rattle.reading.proofs.LawsWord.{fixed-one}
 use Rattle.payloads.specs.declared.fields.Number.TheVariants.{Varint, Byte, I32, I64}
 use Rattle.payloads.specs.Fields.{number_at}
 use Rattle.payloads.proofs.LawsArrays.{numbers-told, numbers_as}
-use borrow.Author.Rules.{rules}
 use Rattle.payloads.proofs.fields.copy_numbers.Goals as goal
 
 pub returns-in-Varint : goal.returns-in-Varint

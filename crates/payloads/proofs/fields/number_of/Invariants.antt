@@ -1,10 +1,6 @@
 -- `number_of` takes the highest byte first: after each turn it has the number that the bytes from there on are.
 -- Assumes nothing.
-use Prim.Native.Nat.{◌+◌, ◌-◌, ◌*◌}
-use native.Mathlib.Omega.{arith}
-use lib.ListN.{get_or}
-use Rattle.payloads.proofs.LawsArrays.{Tail, tail-end, tail-next, tail-fits, tail-room, tail_all}
-use borrow.Author.Rules.{rules}
+use Rattle.payloads.proofs.LawsArrays.{Tail}
 use Rattle.payloads.proofs.fields.number_of.Given as goal
 
 abbrev pub invariant-loop-i : goal.invariant-loop-i

@@ -3,13 +3,11 @@ use mathlib.Core.Path.{◌≡◌, refl, sym, ap, ◌∙◌}
 use Prim.Native.Nat.{◌+◌, ◌-◌, ◌*◌}
 use native.Mathlib.Omega.{arith}
 use lib.ListN.{length, take, drop}
-use Rattle.exact.specs.Fixed.{little, nums}
-use Rattle.sheet.specs.Store.{put_words}
+use Rattle.exact.specs.Fixed.{little}
 use Rattle.entries.proofs.LawsEntries.{part_length}
 use Rattle.payloads.proofs.LawsWords.{length-put_word}
 use Rattle.payloads.proofs.LawsPast.{put_words-past}
 use Rattle.payloads.proofs.LawsArrays.{within-run, nums-done, nums-more}
-use borrow.Author.Rules.{rules}
 use Rattle.payloads.proofs.fields.put_numbers.Goals as goal
 
 pub returns-then-sheet-at : goal.returns-then-sheet-at

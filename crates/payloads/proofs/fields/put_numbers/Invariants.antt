@@ -1,15 +1,9 @@
 -- `put_numbers` puts the numbers one by one: what the rest puts, all of them put. Assumes nothing.
-use mathlib.Core.Path.{◌≡◌, refl, sym, ap, ◌∙◌}
-use Prim.Native.Nat.{◌+◌, ◌-◌, ◌*◌}
-use native.Mathlib.Omega.{arith}
-use lib.ListN.{length, take, drop}
-use Rattle.exact.specs.Fixed.{little, nums}
+use mathlib.Core.Path.{◌≡◌}
+use Prim.Native.Nat.{◌+◌, ◌-◌}
+use lib.ListN.{length, drop}
+use Rattle.exact.specs.Fixed.{nums}
 use Rattle.sheet.specs.Store.{put_words}
-use Rattle.entries.proofs.LawsEntries.{part_length}
-use Rattle.payloads.proofs.LawsWords.{length-put_word}
-use Rattle.payloads.proofs.LawsPast.{put_words-past}
-use Rattle.payloads.proofs.LawsArrays.{within-run, nums-done, nums-more}
-use borrow.Author.Rules.{rules}
 use Rattle.payloads.proofs.fields.put_numbers.Given as goal
 
 abbrev pub invariant-loop-i : goal.invariant-loop-i

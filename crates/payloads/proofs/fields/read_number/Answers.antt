@@ -3,7 +3,6 @@ use mathlib.Core.Path.{sym}
 use Rattle.reading.proofs.LawsShown.{told-byte, told-u32}
 use Rattle.payloads.specs.Fields.{number_at}
 use Rattle.payloads.proofs.LawsFields.{number-told}
-use borrow.Author.Rules.{rules}
 use Rattle.payloads.proofs.fields.read_number.Goals as goal
 
 pub returns-in-Varint : goal.returns-in-Varint

@@ -1,7 +1,6 @@
 -- `value_of` answers the value to go on with. Assumes nothing.
 use mathlib.Core.Path.{sym, ap}
 use Rattle.payloads.specs.Fields.{value_of}
-use borrow.Author.Rules.{rules}
 use Rattle.payloads.proofs.fields.value_of.Goals as goal
 
 pub returns-in-Stop : goal.returns-in-Stop

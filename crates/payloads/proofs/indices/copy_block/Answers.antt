@@ -2,7 +2,6 @@
 use mathlib.Core.Path.{sym, ◌∙◌}
 use native.Mathlib.Omega.{arith}
 use Rattle.payloads.proofs.LawsIndices.{even-ones, even-pairs, within-at}
-use borrow.Author.Rules.{rules}
 use Rattle.payloads.proofs.indices.copy_block.Goals as goal
 
 pub put_block-requires : goal.put_block-requires

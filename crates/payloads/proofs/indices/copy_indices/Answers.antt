@@ -2,7 +2,6 @@
 use native.Mathlib.Omega.{arith}
 use Rattle.payloads.proofs.LawsFields.{copied-stop, grows-stop, room_at}
 use Rattle.payloads.proofs.LawsIndices.{copied-count, grows-count}
-use borrow.Author.Rules.{rules}
 use Rattle.payloads.proofs.indices.copy_indices.Goals as goal
 
 pub copy_varints-requires : goal.copy_varints-requires

@@ -1,15 +1,8 @@
 -- `copy_varints` copies as many varints as are asked for: whatever copying the rest leaves, copying them all leaves it.
 -- Assumes nothing.
-use mathlib.Core.Path.{◌≡◌, refl, ◌∙◌}
-use Prim.Native.Nat.{ℕ, ◌+◌, ◌≤◌}
+use mathlib.Core.Path.{refl, ◌∙◌}
 use native.Mathlib.Omega.{arith}
-use mathlib.Core.List.{List}
-use lib.ListN.{length}
-use Rattle.payloads.specs.declared.fields.Number.TheVariants.{Varint}
-use Rattle.payloads.specs.declared.fields.SpotRead.{SpotRead}
-use Rattle.payloads.specs.Fields.{numbers, Put}
 use Rattle.payloads.proofs.LawsIndices.{some-value, some-got, some-stop, some-all, within_more, within-told, within-at}
-use borrow.Author.Rules.{rules}
 use Rattle.payloads.proofs.indices.copy_varints.Goals as goal
 
 pub loop-left-init : goal.loop-left-init

@@ -1,11 +1,6 @@
 -- `going_on` counts the top bits that are set: what is counted and what is left are all of them. Assumes nothing.
-use mathlib.Core.Path.{◌≡◌}
-use Prim.Native.Nat.{◌+◌, ◌*◌, ◌≤◌}
 use native.Mathlib.Omega.{arith}
-use lib.ListN.{length}
-use Rattle.payloads.specs.Indices.{tops}
 use Rattle.payloads.proofs.LawsIndices.{steps-end, tops-none, tops_next}
-use borrow.Author.Rules.{rules}
 use Rattle.payloads.proofs.indices.going_on.Goals as goal
 
 pub loop-left-init : goal.loop-left-init

@@ -1,19 +1,11 @@
 -- `put_block` puts numbers of one width, or finds no word for them: whatever copying the rest leaves, copying them all
 -- leaves it. Assumes nothing.
-use mathlib.Core.Path.{◌≡◌, refl, sym, ap, ◌∙◌}
-use mathlib.Core.Logic.{⊎_elim}
-use Prim.Native.Nat.{ℕ, ◌+◌, ◌*◌}
+use mathlib.Core.Path.{refl, sym, ap, ◌∙◌}
 use native.Mathlib.Omega.{arith}
-use mathlib.Core.List.{List}
 use lib.ListN.{length}
-use Rattle.payloads.specs.declared.fields.Number.TheVariants.{Varint}
-use Rattle.payloads.specs.declared.fields.SpotRead.{SpotRead}
-use Rattle.payloads.specs.Fields.{numbers, Put}
-use Rattle.payloads.specs.Indices.{Even}
 use Rattle.payloads.proofs.LawsWords.{length-put_word}
 use Rattle.payloads.proofs.LawsFields.{numbers_more}
 use Rattle.payloads.proofs.LawsIndices.{varint-number, even-first, even-next, steps-end, even-done, even-measured}
-use borrow.Author.Rules.{rules}
 use Rattle.payloads.proofs.indices.put_block.Goals as goal
 use Rattle.payloads.proofs.indices.put_block.Goals.{then-at-sheet+else-loop-left-test, else-at-sheet}
 
@@ -61,7 +53,7 @@ pub returns : goal.returns
 returns c =
     record {
       put = elim c.if-at-sheet.branch [
-        then-at-sheet+else-loop-left-test w ↦
+        | then-at-sheet+else-loop-left-test w ↦
             let l = w.loop-left.invariant in
             l.0 _ _ (even-done _ _ _ _ _ _ _ _ _ w.loop-left-test.false w.sheet-is (sym l.4) (sym l.3) refl)
         | else-at-sheet w ↦ even-measured _ _ _ _ _ _ _ _ _ c.requires.even w.if-at-sheet.false w.sheet-is refl refl refl

@@ -1,19 +1,13 @@
 -- `put_block` puts numbers of one width, or finds no word for them: whatever copying the rest leaves, copying them all
 -- leaves it. Assumes nothing.
-use mathlib.Core.Path.{◌≡◌, refl, sym, ap, ◌∙◌}
-use mathlib.Core.Logic.{⊎_elim}
+use mathlib.Core.Path.{◌≡◌}
 use Prim.Native.Nat.{ℕ, ◌+◌, ◌*◌}
-use native.Mathlib.Omega.{arith}
 use mathlib.Core.List.{List}
 use lib.ListN.{length}
 use Rattle.payloads.specs.declared.fields.Number.TheVariants.{Varint}
 use Rattle.payloads.specs.declared.fields.SpotRead.{SpotRead}
 use Rattle.payloads.specs.Fields.{numbers, Put}
 use Rattle.payloads.specs.Indices.{Even}
-use Rattle.payloads.proofs.LawsWords.{length-put_word}
-use Rattle.payloads.proofs.LawsFields.{numbers_more}
-use Rattle.payloads.proofs.LawsIndices.{varint-number, even-first, even-next, steps-end, even-done, even-measured}
-use borrow.Author.Rules.{rules}
 use Rattle.payloads.proofs.indices.put_block.Given as goal
 
 abbrev pub invariant-loop-left : goal.invariant-loop-left

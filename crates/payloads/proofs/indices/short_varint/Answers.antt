@@ -1,7 +1,6 @@
 -- `short_varint` is the varint whose width is known. Assumes nothing.
 use Prim.Native.Nat.{◌+◌}
 use native.Mathlib.Omega.{arith}
-use borrow.Author.Rules.{rules}
 use Rattle.payloads.proofs.LawsIndices.{spans-one, spans-two}
 use Rattle.payloads.proofs.indices.short_varint.Goals as goal
 

@@ -2,7 +2,6 @@
 use mathlib.Core.Path.{sym, ap}
 use Prim.Native.Nat.{◌+◌, ◌*◌}
 use Rattle.payloads.specs.Pass.{number_of}
-use borrow.Author.Rules.{rules}
 use Rattle.payloads.proofs.pass.contents_of.Goals as goal
 
 pub returns-in-Strings : goal.returns-in-Strings

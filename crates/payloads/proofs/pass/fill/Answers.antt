@@ -6,7 +6,6 @@ use mathlib.Core.Path.{subst, sym}
 use lib.ListN.{get_or}
 use Rattle.container.specs.Container.{nowhere}
 use Rattle.payloads.specs.Pass.{Inside}
-use borrow.Author.Rules.{rules}
 use Rattle.payloads.proofs.pass.fill.Goals as goal
 
 pub fill_payloads-requires : goal.fill_payloads-requires

@@ -2,7 +2,6 @@
 use native.Mathlib.Omega.{arith}
 use Rattle.payloads.proofs.LawsPass.{roomy-fits, roomy-room, goes-stop}
 use Rattle.payloads.proofs.LawsDebugging.{debug-refused, debug-goes, debug-bound, attributes-few}
-use borrow.Author.Rules.{rules}
 use Rattle.format.proofs.LawsSoundItems.{known_bytes}
 use Rattle.payloads.proofs.pass.fill_debug.Goals as goal
 

@@ -4,7 +4,6 @@ use native.Mathlib.Omega.{arith}
 use mathlib.Core.List.{[]}
 use Rattle.payloads.specs.Pass.{Inside, number_of, stage_of}
 use Rattle.payloads.proofs.LawsPasses.{begins, roomy_of, named-of, passed-of, passes-stop, passes-got}
-use borrow.Author.Rules.{rules}
 use Rattle.payloads.proofs.pass.fill_payloads.Goals as goal
 
 pub fill_table-strings-requires : goal.fill_table-strings-requires

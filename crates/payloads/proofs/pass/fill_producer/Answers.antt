@@ -10,7 +10,6 @@ use Rattle.payloads.proofs.LawsProducing.{
   producer-named,
   producer-refused,
 }
-use borrow.Author.Rules.{rules}
 use Rattle.payloads.proofs.pass.fill_producer.Goals as goal
 
 pub returns-then-not-place : goal.returns-then-not-place

@@ -1,7 +1,6 @@
 -- `fill_table` is one step of a pass. Assumes nothing.
 use native.Mathlib.Omega.{arith}
 use Rattle.payloads.proofs.LawsPass.{roomy-fits, number_small, goes-stop, table-refused, table-goes, in-place-bound}
-use borrow.Author.Rules.{rules}
 use Rattle.format.proofs.LawsSoundItems.{known_bytes}
 use Rattle.payloads.proofs.pass.fill_table.Goals as goal
 

@@ -1,7 +1,6 @@
 -- `parse_table` answers and fills as the table's own reader does. Assumes nothing.
 use Rattle.payloads.specs.Pass.{table_in}
 use Rattle.payloads.proofs.LawsPass.{types-fill}
-use borrow.Author.Rules.{rules}
 use Rattle.payloads.proofs.pass.parse_table.Goals as goal
 
 pub returns-in-Strings : goal.returns-in-Strings

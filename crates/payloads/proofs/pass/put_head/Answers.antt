@@ -1,6 +1,5 @@
 -- `put_head` puts the five words before the contents. Assumes nothing.
 use Rattle.payloads.proofs.LawsRows.{five-words}
-use borrow.Author.Rules.{rules}
 use Rattle.payloads.proofs.pass.put_head.Goals as goal
 
 pub returns : goal.returns

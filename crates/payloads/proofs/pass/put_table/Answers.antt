@@ -1,6 +1,5 @@
 -- `put_table` puts two words. Assumes nothing.
 use Rattle.payloads.proofs.LawsPass.{two-words}
-use borrow.Author.Rules.{rules}
 use Rattle.payloads.proofs.pass.put_table.Goals as goal
 
 pub returns : goal.returns

@@ -7,7 +7,6 @@ use Rattle.format.proofs.LawsBelow.{debug-below}
 use Rattle.payloads.specs.Fill.{Fits}
 use Rattle.payloads.proofs.LawsPass.{part-payload, part-place}
 use Rattle.payloads.proofs.LawsDebugging.{debug-stopped, absent-debug, present-debug-stop, present-debug}
-use borrow.Author.Rules.{rules}
 use Rattle.payloads.proofs.pass.read_debug.Goals as goal
 
 pub returns-then-not-place : goal.returns-then-not-place

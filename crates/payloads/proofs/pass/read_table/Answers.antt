@@ -6,7 +6,6 @@ use Rattle.payloads.specs.Fill.{Fits}
 use Rattle.payloads.specs.Pass.{table_in}
 use Rattle.payloads.proofs.LawsPass.{fills-stopped, part-payload, part-place, absent-fills, present-stop, present-fills}
 use Rattle.payloads.proofs.LawsSizes.{table_below}
-use borrow.Author.Rules.{rules}
 use Rattle.payloads.proofs.pass.read_table.Goals as goal
 
 pub returns-then-not-place : goal.returns-then-not-place

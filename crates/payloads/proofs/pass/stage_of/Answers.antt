@@ -1,8 +1,6 @@
 -- `stage_of` answers the stage of a table. Assumes nothing.
 use mathlib.Core.Path.{sym, ap}
-use Prim.Native.Nat.{◌+◌, ◌*◌}
 use Rattle.payloads.specs.Pass.{stage_of}
-use borrow.Author.Rules.{rules}
 use Rattle.payloads.proofs.pass.stage_of.Goals as goal
 
 pub returns-in-Strings : goal.returns-in-Strings

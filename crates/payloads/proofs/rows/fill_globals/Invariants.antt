@@ -1,20 +1,14 @@
 -- `fill_globals` fills in row after row: whatever the rest of the rows fills in, all of them fill in. Assumes nothing.
-use mathlib.Core.Path.{◌≡◌, refl, ap, ◌∙◌}
+use mathlib.Core.Path.{◌≡◌}
 use Prim.Native.Nat.{ℕ, ◌+◌, ◌*◌, ◌≤◌}
-use native.Mathlib.Omega.{arith}
 use mathlib.Core.List.{List}
 use lib.ListN.{length}
 use Rattle.exact.specs.Repeat.{times}
-use Rattle.sheet.proofs.LawsStore.{length-put_words}
-use Rattle.reading.proofs.LawsShown.{told}
 use Rattle.format.specs.DecodeRows.{global_at}
 use Rattle.payloads.specs.declared.answers.TableRead.{TableRead}
-use Rattle.payloads.proofs.LawsFilling.{times_none, times-stop, Filling, filling-none, filling-stop}
+use Rattle.payloads.proofs.LawsFilling.{Filling}
 use Rattle.format.specs.Sheet.{global_words}
-use Rattle.entries.specs.Rows.{got_global}
-use Rattle.entries.proofs.LawsRows.{global-in}
-use Rattle.payloads.proofs.LawsRows.{no_runs, globals-more, globals-filled}
-use borrow.Author.Rules.{rules}
+use Rattle.payloads.proofs.LawsRows.{no_runs}
 use Rattle.payloads.proofs.rows.fill_globals.Given as goal
 
 abbrev pub invariant-loop-left : goal.invariant-loop-left

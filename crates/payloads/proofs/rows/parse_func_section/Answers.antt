@@ -4,7 +4,6 @@ use Rattle.reading.proofs.LawsNumbers.{varint-in}
 use Rattle.reading.proofs.LawsShown.{told-num}
 use Rattle.payloads.proofs.LawsFill.{fills-stop}
 use Rattle.payloads.proofs.LawsRows.{funcs-stop, funcs-all}
-use borrow.Author.Rules.{rules}
 use Rattle.payloads.proofs.rows.parse_func_section.Goals as goal
 
 pub fill_funcs-requires : goal.fill_funcs-requires

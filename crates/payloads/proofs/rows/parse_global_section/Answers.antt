@@ -4,7 +4,6 @@ use Rattle.reading.proofs.LawsNumbers.{varint-in}
 use Rattle.reading.proofs.LawsShown.{told-num}
 use Rattle.payloads.proofs.LawsFill.{fills-stop}
 use Rattle.payloads.proofs.LawsRows.{globals-stop, globals-all}
-use borrow.Author.Rules.{rules}
 use Rattle.payloads.proofs.rows.parse_global_section.Goals as goal
 
 pub fill_globals-requires : goal.fill_globals-requires

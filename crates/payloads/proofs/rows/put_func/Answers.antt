@@ -2,7 +2,6 @@
 use native.Mathlib.Omega.{arith}
 use Rattle.format.specs.Sheet.{function_words}
 use Rattle.payloads.proofs.LawsRows.{five-words}
-use borrow.Author.Rules.{rules}
 use Rattle.payloads.proofs.rows.put_func.Goals as goal
 
 pub overflow_add-word : goal.overflow_add-word

@@ -2,7 +2,6 @@
 use native.Mathlib.Omega.{arith}
 use Rattle.format.specs.Sheet.{global_words}
 use Rattle.payloads.proofs.LawsRows.{six-words}
-use borrow.Author.Rules.{rules}
 use Rattle.payloads.proofs.rows.put_global.Goals as goal
 
 pub overflow_add-word : goal.overflow_add-word

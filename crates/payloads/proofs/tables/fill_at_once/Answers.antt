@@ -1,10 +1,8 @@
 -- `fill_at_once` passes over the entries with no pool and puts them by one copy; or with the pool. Assumes nothing.
 use native.Mathlib.Omega.{arith}
-use borrow.Author.Tests.{ltb-false}
 use Rattle.entries.proofs.LawsStarts.{wide-some}
 use Rattle.payloads.proofs.LawsFill.{fills-none}
 use Rattle.payloads.proofs.LawsTables.{front-inside, put-at-once}
-use borrow.Author.Rules.{rules}
 use Rattle.payloads.proofs.tables.fill_at_once.Goals as goal
 
 pub slice_bounds-run-count : goal.slice_bounds-run-count

@@ -1,20 +1,16 @@
 -- `fill_entries` puts entry after entry: whatever the rest of them fills in, all of them fill in. Assumes nothing.
 use mathlib.Core.Path.{◌≡◌, refl, ap, ◌∙◌}
-use Prim.Native.Nat.{ℕ, suc, ◌+◌, ◌-◌, ◌≤◌}
+use Prim.Native.Nat.{suc, ◌-◌}
 use native.Mathlib.Omega.{arith}
-use mathlib.Core.List.{List}
 use lib.ListN.{length}
-use Rattle.exact.specs.Upto.{whole}
 use Rattle.encoding.proofs.LawsOut.{length-put}
 use Rattle.reading.proofs.LawsShown.{told}
-use Rattle.entries.specs.Starts.{wide, got_entry}
+use Rattle.entries.specs.Starts.{got_entry}
 use Rattle.entries.proofs.LawsStarts.{wide-some, end-got}
-use Rattle.entries.proofs.LawsEntries.{rest-length, starts-few, run-first, Before, before-next, entries_left, left-none, left-bad}
-use Rattle.payloads.specs.declared.answers.TableRead.{TableRead}
-use Rattle.payloads.proofs.LawsFilling.{Filling, filling-none, filling-stop}
+use Rattle.entries.proofs.LawsEntries.{rest-length, starts-few, run-first, before-next, left-none, left-bad}
+use Rattle.payloads.proofs.LawsFilling.{filling-none, filling-stop}
 use Rattle.payloads.proofs.LawsTables.{run_words, run_only, runs-more, runs-filled}
 use Rattle.payloads.proofs.LawsWords.{length-put_word}
-use borrow.Author.Rules.{rules}
 use Rattle.payloads.proofs.tables.fill_entries.Goals as goal
 
 pub slice_bounds-run-count : goal.slice_bounds-run-count

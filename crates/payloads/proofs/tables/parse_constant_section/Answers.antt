@@ -1,6 +1,5 @@
 -- `parse_constant_section` reads the offset table of Constant. Assumes nothing.
 use Rattle.format.specs.DecodeTables.{constants_at}
-use borrow.Author.Rules.{rules}
 use Rattle.payloads.proofs.tables.parse_constant_section.Goals as goal
 
 pub parse_offset_table-requires : goal.parse_offset_table-requires

@@ -6,7 +6,6 @@ use Rattle.entries.proofs.LawsEntries.{starts-lie}
 use Rattle.entries.proofs.LawsPlaces.{table-stop, table_got}
 use Rattle.payloads.proofs.LawsFill.{fills-stop}
 use Rattle.payloads.proofs.LawsTables.{filling-stop}
-use borrow.Author.Rules.{rules}
 use Rattle.payloads.proofs.tables.parse_offset_table.Goals as goal
 
 pub fill_at_once-requires : goal.fill_at_once-requires

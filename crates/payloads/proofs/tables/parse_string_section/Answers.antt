@@ -1,6 +1,5 @@
 -- `parse_string_section` reads the offset table of String. Assumes nothing.
 use Rattle.format.specs.DecodeTables.{strings_at}
-use borrow.Author.Rules.{rules}
 use Rattle.payloads.proofs.tables.parse_string_section.Goals as goal
 
 pub parse_offset_table-requires : goal.parse_offset_table-requires

@@ -1,6 +1,5 @@
 -- `any_partition_view` chooses by the version class. Assumes nothing.
 use Rattle.payloads.proofs.LawsTypeEntries.{row_as, partition-since, partition-below}
-use borrow.Author.Rules.{rules}
 use Rattle.payloads.proofs.types.any_partition_view.Goals as goal
 
 pub returns-then-from_13_3 : goal.returns-then-from_13_3

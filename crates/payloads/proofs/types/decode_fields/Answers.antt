@@ -7,7 +7,6 @@ use mathlib.Core.Bool.{true}
 use Rattle.format.specs.Types.{plain_tags, among}
 use Rattle.payloads.proofs.LawsTypes.{spare-tag, tag-within, within-most}
 use Rattle.payloads.proofs.LawsTypeEntries.{row_as, kind-pointer, kind-tile, kind-tensor, kind-partition, kind-function, kind-gather, kind-strided, plain_row, unknown-row, within_first}
-use borrow.Author.Rules.{rules}
 use Rattle.format.proofs.LawsTags.{plain-low}
 use Rattle.payloads.proofs.types.decode_fields.Goals as goal
 use Rattle.payloads.proofs.types.decode_fields.Goals.{in-22-1, in_default+then-tag-lt20}
@@ -89,7 +88,7 @@ returns-in-0-to-11 c =
     let p = c.put_value.ensures in
     let h : among t plain_tags ≡ true =
     elim c.in-0-to-11-1.branch [
-      in-22-1 w ↦ ⊎_elim (λ e. ap (λ t. among t plain_tags) e) (λ e. ap (λ t. among t plain_tags) e) w.in-22-1.keys1
+      | in-22-1 w ↦ ⊎_elim (λ e. ap (λ t. among t plain_tags) e) (λ e. ap (λ t. among t plain_tags) e) w.in-22-1.keys1
       | in_default+then-tag-lt20 w ↦
           let r = w.in_default-1.rest in
           plain-low t w.if-tag-lt20-1.true r.0.0.0.0.0.0.1 r.0.0.0.0.0.1 r.0.0.0.0.1 r.0.0.0.1 r.0.0.1

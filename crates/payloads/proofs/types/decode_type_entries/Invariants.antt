@@ -1,21 +1,14 @@
 -- `decode_type_entries` reads entry after entry: whatever reading the rest leaves, reading them all leaves it. Assumes nothing.
-use mathlib.Core.Path.{◌≡◌, refl, ◌∙◌}
-use Prim.Native.Nat.{ℕ, suc, ◌+◌, ◌-◌, ◌*◌, ◌≤◌}
-use native.Mathlib.Omega.{arith}
+use mathlib.Core.Path.{◌≡◌}
+use Prim.Native.Nat.{ℕ, ◌+◌, ◌*◌, ◌≤◌}
 use mathlib.Core.List.{List}
 use lib.ListN.{length}
-use Rattle.reading.proofs.LawsShown.{told}
 use Rattle.format.specs.DecodeTypes.{type_entry_at}
 use Rattle.format.specs.Sheet.{type_words}
-use Rattle.entries.specs.Starts.{got_entry}
-use Rattle.entries.proofs.LawsStarts.{end-got}
-use Rattle.entries.proofs.LawsEntries.{rest_of, rest-length, Before, before-next, part_length}
+use Rattle.entries.proofs.LawsEntries.{Before}
 use Rattle.payloads.specs.declared.fields.SpotRead.{SpotRead}
 use Rattle.payloads.specs.TypeRows.{Row}
-use Rattle.payloads.proofs.LawsEntryRows.{words_left, words-done, words-bad, words-stop, words_more, words-all, words-as}
-use Rattle.payloads.proofs.LawsTypeEntries.{row_told}
-use Rattle.payloads.proofs.LawsTypeSection.{short-told, short-at, short-word}
-use borrow.Author.Rules.{rules}
+use Rattle.payloads.proofs.LawsEntryRows.{words_left}
 use Rattle.payloads.proofs.types.decode_type_entries.Given as goal
 
 abbrev pub invariant-loop-left : goal.invariant-loop-left

@@ -8,7 +8,6 @@ use native.Mathlib.Omega.{arith}
 use Rattle.reading.proofs.LawsNumbers.{varint-in}
 use Rattle.reading.proofs.LawsShown.{told-num}
 use Rattle.payloads.proofs.LawsTypeEntries.{entry-stop, entry-refused, entry-got, row-least, row_told, within-told, short-stop, short-got, entry-spare}
-use borrow.Author.Rules.{rules}
 use Rattle.payloads.proofs.types.decode_type_entry.Goals as goal
 
 pub decode_fields-requires : goal.decode_fields-requires

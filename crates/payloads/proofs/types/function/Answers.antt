@@ -4,7 +4,6 @@ use Rattle.payloads.specs.declared.fields.Number.TheVariants.{Varint}
 use Rattle.payloads.specs.Fields.{listed}
 use Rattle.payloads.proofs.LawsFields.{copied-then, copied-list}
 use Rattle.payloads.proofs.LawsTypes.{row_of, spare-tag, spare-room, tag-within, grow, within-most, function-says, function_steps}
-use borrow.Author.Rules.{rules}
 use Rattle.payloads.proofs.types.function.Goals as goal
 
 pub put_value-requires : goal.put_value-requires

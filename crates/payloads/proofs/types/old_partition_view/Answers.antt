@@ -9,7 +9,6 @@ use Rattle.payloads.specs.Fields.{number_at, as_word, unput, listed}
 use Rattle.payloads.proofs.LawsFields.{then, copied-then, copied-as}
 use Rattle.payloads.proofs.LawsTypes.{spare-room, grow, field-if, old_steps}
 use Rattle.payloads.proofs.LawsTypeEntries.{old_row, old-within, spare-word}
-use borrow.Author.Rules.{rules}
 use Rattle.payloads.proofs.types.old_partition_view.Goals as goal
 
 pub overflow_add-begun : goal.overflow_add-begun

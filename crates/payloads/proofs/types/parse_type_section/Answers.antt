@@ -5,7 +5,6 @@ use Rattle.entries.specs.Starts.{got_starts}
 use Rattle.entries.proofs.LawsEntries.{starts-lie}
 use Rattle.payloads.proofs.LawsTypeEntries.{row_told}
 use Rattle.payloads.proofs.LawsTypeSection.{types-stop, types-got, types-refused, rows-refused, rows-filled, types-as}
-use borrow.Author.Rules.{rules}
 use Rattle.payloads.proofs.types.parse_type_section.Goals as goal
 
 pub decode_type_entries-requires : goal.decode_type_entries-requires

@@ -5,7 +5,6 @@ use Rattle.format.specs.DecodeTypes.{flags_at, byte_if}
 use Rattle.payloads.specs.Fields.{as_word, value_of}
 use Rattle.payloads.proofs.LawsFields.{then, copied-then}
 use Rattle.payloads.proofs.LawsTypes.{row_of, spare-tag, spare-room, tag-within, grow, within-most, pointer-says, pointer_steps, byte-told}
-use borrow.Author.Rules.{rules}
 use Rattle.payloads.proofs.types.pointer.Goals as goal
 
 pub put_value-requires : goal.put_value-requires

@@ -4,7 +4,6 @@ use Rattle.payloads.proofs.LawsFields.{copied-stop, grows-stop, grows-refused}
 use Rattle.payloads.specs.declared.fields.Number.TheVariants.{Byte}
 use Rattle.payloads.specs.Fields.{number_at}
 use Rattle.payloads.proofs.LawsTypeEntries.{presence-got, presence-stop, grows-presence}
-use borrow.Author.Rules.{rules}
 use Rattle.format.proofs.LawsItems.{truth-zero, truth-one}
 use Rattle.payloads.proofs.types.read_presence.Goals as goal
 

@@ -6,7 +6,6 @@ use Rattle.payloads.specs.declared.fields.Number.TheVariants.{I32}
 use Rattle.payloads.specs.Fields.{as_word, listed, value_of}
 use Rattle.payloads.proofs.LawsFields.{then, copied-then}
 use Rattle.payloads.proofs.LawsTypes.{row_of, spare-tag, spare-room, tag-within, grow, within-most, strided-view-says, strided_view_steps, byte-told}
-use borrow.Author.Rules.{rules}
 use Rattle.payloads.proofs.types.strided_view.Goals as goal
 
 pub put_value-requires : goal.put_value-requires

@@ -5,7 +5,6 @@ use Rattle.payloads.specs.declared.fields.Number.TheVariants.{I64}
 use Rattle.payloads.specs.Fields.{as_word, listed}
 use Rattle.payloads.proofs.LawsFields.{copied-then}
 use Rattle.payloads.proofs.LawsTypes.{row_of, spare-tag, spare-room, tag-within, grow, within-most, tile-says, tile_steps}
-use borrow.Author.Rules.{rules}
 use Rattle.payloads.proofs.types.tile.Goals as goal
 
 pub put_value-requires : goal.put_value-requires

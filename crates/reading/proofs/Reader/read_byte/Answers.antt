@@ -1,7 +1,6 @@
 -- `read_byte` answers the byte there, or that the data ends. Assumes nothing.
 use mathlib.Core.Path.{sym}
 use Rattle.exact.proofs.LawsSteps.{byte_at, byte-end}
-use borrow.Author.Rules.{rules}
 use Rattle.reading.proofs.Reader.read_byte.Goals as goal
 
 pub returns-then-data-at : goal.returns-then-data-at

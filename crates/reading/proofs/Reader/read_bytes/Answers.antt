@@ -1,7 +1,6 @@
 -- `read_bytes` answers the run there, or that the data ends inside it. Assumes nothing.
 use native.Mathlib.Omega.{arith}
 use Rattle.reading.proofs.LawsPlaced.{run_at, run_end}
-use borrow.Author.Rules.{rules}
 use Rattle.reading.proofs.Reader.read_bytes.Goals as goal
 
 pub returns-then-remaining-n : goal.returns-then-remaining-n

@@ -1,9 +1,8 @@
 -- `read_digits` answers the varint there: its loop follows the digits (`Loop`). Assumes nothing.
-use Prim.Native.Nat.{◌%◌, ◌-◌}
+use Prim.Native.Nat.{◌%◌}
 use native.Mathlib.Omega.{arith}
-use Rattle.reading.proofs.LawsDigits.{Loop, loop-second, loop-short, loop-last, loop-more, loop-tenth, loop-long}
+use Rattle.reading.proofs.LawsDigits.{loop-second, loop-short, loop-last, loop-more, loop-tenth, loop-long}
 use Rattle.reading.proofs.LawsDigits.{next_fits, digit-fits, tenth-fits}
-use borrow.Author.Rules.{rules}
 use Rattle.reading.proofs.Reader.read_digits.Goals as goal
 
 pub overflow_add-i : goal.overflow_add-i

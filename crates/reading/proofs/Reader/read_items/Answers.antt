@@ -2,7 +2,6 @@
 use native.Mathlib.Omega.{arith}
 use Rattle.reading.proofs.LawsPlaced.{items-stop, items-room, items-fit, items-at, items-end}
 use Rattle.reading.proofs.LawsShown.{told-num}
-use borrow.Author.Rules.{rules}
 use Rattle.reading.proofs.Reader.read_items.Goals as goal
 
 pub overflow_mul-broken : goal.overflow_mul-broken

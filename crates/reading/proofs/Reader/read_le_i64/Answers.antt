@@ -6,7 +6,6 @@ use Rattle.encoding.specs.Signed.{signed}
 use Rattle.reading.specs.Numbers.{signed_at}
 use Rattle.reading.proofs.LawsSigned.{map_at, map-end, settled, signed-fits}
 use Rattle.reading.proofs.LawsShown.{told-num}
-use borrow.Author.Rules.{rules}
 use Rattle.reading.proofs.Reader.read_le_i64.Goals as goal
 
 pub returns-in-Stop : goal.returns-in-Stop

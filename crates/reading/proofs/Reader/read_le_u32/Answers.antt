@@ -2,7 +2,6 @@
 use native.Mathlib.Omega.{arith}
 use Rattle.reading.proofs.LawsPlaced.{run-got, run-word, run-stop}
 use Rattle.reading.proofs.LawsShown.{told-bytes}
-use borrow.Author.Rules.{rules}
 use Rattle.reading.proofs.Reader.read_le_u32.Goals as goal
 
 pub u32_at-requires : goal.u32_at-requires

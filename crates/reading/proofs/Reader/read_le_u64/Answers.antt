@@ -2,7 +2,6 @@
 use native.Mathlib.Omega.{arith}
 use Rattle.reading.proofs.LawsPlaced.{run-got, run-word, run-stop}
 use Rattle.reading.proofs.LawsShown.{told-bytes}
-use borrow.Author.Rules.{rules}
 use Rattle.reading.proofs.Reader.read_le_u64.Goals as goal
 
 pub u64_at-requires : goal.u64_at-requires

@@ -1,7 +1,6 @@
 -- A number of one byte is the byte. Assumes nothing.
 use mathlib.Core.Path.{◌∙◌}
 use Rattle.reading.proofs.LawsWord.{fixed-one}
-use borrow.Author.Rules.{rules}
 use Rattle.reading.proofs.Reader.read_le_u8.Goals as goal
 
 pub returns : goal.returns

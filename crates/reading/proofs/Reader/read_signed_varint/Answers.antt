@@ -5,7 +5,6 @@ use Rattle.encoding.specs.Signed.{unzigzag}
 use Rattle.reading.specs.Numbers.{varint_at, signed_varint_at}
 use Rattle.reading.proofs.LawsSigned.{map_at, map-end, settled, unzigzag-fits}
 use Rattle.reading.proofs.LawsShown.{told-num}
-use borrow.Author.Rules.{rules}
 use Rattle.reading.proofs.Reader.read_signed_varint.Goals as goal
 
 pub returns-in-Stop : goal.returns-in-Stop

@@ -1,6 +1,5 @@
 -- `read_varint` answers the varint there: a number of one byte at once, others by `read_digits`. Assumes nothing.
 use Rattle.reading.proofs.LawsDigits.{varint-end, varint-one}
-use borrow.Author.Rules.{rules}
 use Rattle.reading.proofs.Reader.read_varint.Goals as goal
 
 pub returns-then-data-at : goal.returns-then-data-at

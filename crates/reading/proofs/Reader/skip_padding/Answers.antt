@@ -2,8 +2,7 @@
 use Prim.Native.Nat.{◌<◌}
 use native.Mathlib.Nat.{mod-lt, le_of_lt}
 use native.Mathlib.Omega.{arith}
-use Rattle.reading.proofs.LawsSkip.{Skip, skip-none, skip-start, skip-done, skip-short, skip-wrong, skip-more}
-use borrow.Author.Rules.{rules}
+use Rattle.reading.proofs.LawsSkip.{skip-none, skip-start, skip-done, skip-short, skip-wrong, skip-more}
 use Rattle.reading.proofs.Reader.skip_padding.Goals as goal
 
 pub returns-then-alignment-lt2 : goal.returns-then-alignment-lt2

@@ -1,9 +1,5 @@
 -- `skip_padding` answers the place behind the padding: its loop follows the bytes still to come (`Skip`). Assumes nothing.
-use Prim.Native.Nat.{◌<◌}
-use native.Mathlib.Nat.{mod-lt, le_of_lt}
-use native.Mathlib.Omega.{arith}
-use Rattle.reading.proofs.LawsSkip.{Skip, skip-none, skip-start, skip-done, skip-short, skip-wrong, skip-more}
-use borrow.Author.Rules.{rules}
+use Rattle.reading.proofs.LawsSkip.{Skip}
 use Rattle.reading.proofs.Reader.skip_padding.Given as goal
 
 abbrev pub invariant-loop-padding : goal.invariant-loop-padding

@@ -1,0 +1,17 @@
+-- `i32_read` shows what was answered below. Assumes nothing.
+use mathlib.Core.Path.{ap, ◌∙◌}
+use mir.Syntax.{w32}
+use mir.Facts.{to_z-of_z}
+use borrow.Author.Rules.{sfits_of}
+use Rattle.encoding.specs.Signed.{pattern}
+use Rattle.tikomuci.proofs.i32_read.Goals as goal
+
+pub returns-in-Got : goal.returns-in-Got
+returns-in-Got c =
+    let value = c.in-Got.value in
+    let kept = to_z-of_z {w = w32} {z = value} (sfits_of c.in-Got.known_told-1-own.given.0.1) in
+    let bits = c.bits_of_i32.ensures ∙ ap (pattern 32) kept in
+    rw (c.in-Got.is, ← bits) c.accept.ensures
+
+pub returns-in-Stop : goal.returns-in-Stop
+returns-in-Stop c = rw c.in-Stop.is c.refuse.ensures

@@ -1,0 +1,6 @@
+-- `tikomuci_cache_put` answers and leaves what the crate below did. Assumes nothing.
+use Rattle.tikomuci.proofs.LawsCaches.{cache-put}
+use Rattle.tikomuci.proofs.tikomuci_cache_put.Goals as goal
+
+pub returns : goal.returns
+returns c = cache-put _ _ _ _ _ _ _ c.slotted.ensures c.put.ensures
