@@ -19,10 +19,10 @@ unfolding row_words
 run-words [] = refl
 run-words (x ∷ xs) = ap (λ l. length_words (length x) ∷ l) (run-words xs)
 
-function_rows_fit : (fs : List Function) → map function_words (map function_row_of fs) ≡ map (row_words row.Function) fs
+function-words : (fs : List Function) → map function_words (map function_row_of fs) ≡ map (row_words row.Function) fs
 unfolding row_words
-function_rows_fit [] = refl
-function_rows_fit (f ∷ fs) = ap (λ l. function_words (function_row_of f) ∷ l) (function_rows_fit fs)
+function-words [] = refl
+function-words (f ∷ fs) = ap (λ l. function_words (function_row_of f) ∷ l) (function-words fs)
 
 runs-good : (c : VersionClass) (xs : List (List ℕ)) → All (GoodRow c row.Run) xs
 unfolding GoodRow
@@ -130,7 +130,7 @@ module _ (t : Tables) where
       record {
         lies =
             subst (λ b. Lies (sheet_of t) (19 + length (join b0) + length (join b1) + length (join b2) + length (join b3)) (join b))
-            (function_rows_fit t.functions) (lies-front (join b4) _ at4);
+            (function-words t.functions) (lies-front (join b4) _ at4);
         number = sym (length-map (map function_row_of t.functions) function_words ∙ length-map t.functions function_row_of);
         good = functions-good (class t.version) t.functions h.frame.functions;
       }
@@ -163,7 +163,7 @@ module _ (t : Tables) where
   words-parts =
       let e0 = ap (λ l. length (join l)) (run-words t.strings) in
       let e2 = ap (λ l. length (join l)) (run-words t.constants) in
-      let e4 = ap (λ l. length (join l)) (function_rows_fit t.functions) in
+      let e4 = ap (λ l. length (join l)) (function-words t.functions) in
       let i = lies-inside (join b0 ++ (join b1 ++ (join b2 ++ (join b3 ++ (join b4 ++ (join b5 ++ (join b6 ++ []))))))) at0 in
       let n0 = length-append (join b0) (join b1 ++ (join b2 ++ (join b3 ++ (join b4 ++ (join b5 ++ (join b6 ++ [])))))) in
       let n1 = length-append (join b1) (join b2 ++ (join b3 ++ (join b4 ++ (join b5 ++ (join b6 ++ []))))) in
