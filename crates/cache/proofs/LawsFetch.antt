@@ -20,7 +20,9 @@ use Rattle.slots.specs.Cache.{Slot, free, held, file_in, InSlot, slot_of, or_ref
 use Rattle.slots.specs.Lent.{Lent, length_at, slot_size, Good, slot_at, slots_up_to}
 use Rattle.slots.specs.Meaning.{cache_of, of_cache, fetch_answer, drop_answer, in_buffer}
 use Rattle.owners.specs.Owners.{RowOf}
-use Rattle.cache.specs.Calls.{placed_at, Fetched, FetchPost}
+use Rattle.cache.specs.declared.SlotRead.{SlotRead}
+use Rattle.cache.specs.declared.SlotRead.TheVariants.{Got}
+use Rattle.cache.specs.Calls.{placed_at, OwnSlot, Fetched, FetchPost}
 use Rattle.slots.proofs.LawsSlots.{slots_at}
 use Rattle.slots.proofs.LawsStored.{good-cache, file_at, taken-slot}
 use Rattle.slots.proofs.LawsFound.{answered, or-refused-inv, held-row}
@@ -155,3 +157,13 @@ view-begins b start size k p v h =
     let d : length (drop start b) ≡ length b - start = length-drop start b in
     let m : length (take (start + size - start) (drop start b)) ≡ size = ap length (part-is b start size) ∙ length-take-le size (drop start b) (omega arith) in
     omega (arith, m, (stands-bytes _ p.offset _ v.row.stands).1)
+
+-- The slot that was found is the one that a drop answers, ..
+pub own-found : (n i : ℕ) (b ws : List ℕ) (k : ℕ) (r : SlotRead) → OwnSlot (length b) ws n i r → r ≡ Got k →
+    drop_answer n i (record { buffer = b; owners = ws }) ≡ accepted k
+own-found n i b ws k r o e = sym (rw e at (o b refl))
+
+-- .. and so the instance's.
+pub own-held : (n i : ℕ) (b ws : List ℕ) (z k : ℕ) (r : SlotRead) → z ≡ slot_size n b → OwnSlot (length b) ws n i r →
+    r ≡ Got k → Holds n i z (record { buffer = b; owners = ws }) k
+own-held n i b ws z k r e o g = holds n i (record { buffer = b; owners = ws }) z k e (own-found n i b ws k r o g)

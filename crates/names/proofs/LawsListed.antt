@@ -47,6 +47,17 @@ module _ (s : List ℕ) (row : ℕ) (h : row < length (types_in s)) where
 pub put-into : {t : List ℕ} {p q q' : Pen} {out o o' : List ℕ} → o' ≡ o → q' ≡ q → Put t p out o q → Put t p out o' q'
 put-into {t} {p} {out = out} e f x = rw (e, f) x
 
+-- What was put for the index that stands in a word: the name of an earlier row, ..
+module _ (s : List ℕ) (row : ℕ) (h : row < length (types_in s)) (word : ℕ) {index : ℕ} (i : index ≡ get_or (words_in s) word 0) where
+  pub put-earlier : {p q q' : Pen} {out o o' : List ℕ} → index < row → o' ≡ o → q' ≡ q → Put (name_at s index) p out o q →
+      Put (named (earlier s row) (get_or (words_in s) word 0)) p out o' q'
+  put-earlier k e f x = put-into e f (put_as (earlier-named s row h index k ∙ ap (named (earlier s row)) i) x)
+
+  -- .. and "?" for another one.
+  pub put-later : {p q q' : Pen} {out o o' : List ℕ} → row ≤ index → o' ≡ o → q' ≡ q → Put (ascii "?") p out o q →
+      Put (named (earlier s row) (get_or (words_in s) word 0)) p out o' q'
+  put-later k e f x = put-into e f (put_as (later-named s row h index k ∙ ap (named (earlier s row)) i) x)
+
 module _ (s : List ℕ) (row word left : ℕ) (h : word + left ≤ length (words_in s)) where
   abbrev index : ℕ
   index = get_or (words_in s) word 0

@@ -2,26 +2,28 @@
 use mathlib.Core.Path.{refl, sym}
 use native.Mathlib.Omega.{arith}
 use Rattle.cache.proofs.LawsCalls.{drop-stays, drop-post, stored-left}
-use Rattle.cache.proofs.LawsFetch.{holds}
+use Rattle.cache.proofs.LawsFetch.{own-found, own-held}
 use Rattle.cache.proofs.drop.Goals as goal
 
 pub own_slot-requires : goal.own_slot-requires
 own_slot-requires c = c.slot_size-size.ensures
 
 pub overflow_mul-slot : goal.overflow_mul-slot
--- The slot that was found is the instance's.
 overflow_mul-slot c =
-    let held = holds _ _ _ _ _ c.slot_size-size.ensures (sym (rw c.in-Got.is at (c.own_slot.ensures c.args.cache.now refl))) in
+    let held =
+    own-held _ _ c.args.cache.now c.args.owners.now _ _ _ c.slot_size-size.ensures c.own_slot.ensures c.in-Got.is in
     omega (arith, held.room)
 
 pub fill_slot-requires : goal.fill_slot-requires
 fill_slot-requires c =
-    let held = holds _ _ _ _ _ c.slot_size-size.ensures (sym (rw c.in-Got.is at (c.own_slot.ensures c.args.cache.now refl))) in
+    let held =
+    own-held _ _ c.args.cache.now c.args.owners.now _ _ _ c.slot_size-size.ensures c.own_slot.ensures c.in-Got.is in
     (held.room, omega arith)
 
 pub put_row-requires : goal.put_row-requires
 put_row-requires c =
-    let held = holds _ _ _ _ _ c.slot_size-size.ensures (sym (rw c.in-Got.is at (c.own_slot.ensures c.args.cache.now refl))) in
+    let held =
+    own-held _ _ c.args.cache.now c.args.owners.now _ _ _ c.slot_size-size.ensures c.own_slot.ensures c.in-Got.is in
     omega (arith, held.row_room)
 
 pub returns-in-Stop : goal.returns-in-Stop
@@ -33,6 +35,7 @@ returns-in-Stop c =
 pub returns-in-Got : goal.returns-in-Got
 returns-in-Got c =
     let z = c.slot_size-size in
-    let found = sym (rw c.in-Got.is at (c.own_slot.ensures c.args.cache.now refl)) in
+    let found =
+    own-found _ _ c.args.cache.now c.args.owners.now _ _ c.own_slot.ensures c.in-Got.is in
     drop-post _ _ _ _ _
     (record { answered = sym found; left = stored-left _ _ _ _ _ _ _ _ _ found z.ensures c.fill_slot.ensures c.put_row.ensures })

@@ -2,7 +2,7 @@
 use mathlib.Core.Path.{refl, sym, ap, ◌∙◌}
 use native.Mathlib.Omega.{arith}
 use Rattle.format.specs.Read.{map_read}
-use Rattle.cache.proofs.LawsFetch.{holds, fetch-refused, fetch-there, fetch-post}
+use Rattle.cache.proofs.LawsFetch.{own-held, fetch-refused, fetch-there, fetch-post}
 use Rattle.cache.proofs.fetch.Goals as goal
 
 pub own_slot-requires : goal.own_slot-requires
@@ -10,22 +10,26 @@ own_slot-requires c = c.slot_size-size.ensures
 
 pub overflow_mul-slot : goal.overflow_mul-slot
 overflow_mul-slot c =
-    let held = holds _ _ _ _ _ c.slot_size-size.ensures (sym (rw c.in-Got.is at (c.own_slot.ensures c.args.cache.now refl))) in
+    let held =
+    own-held _ _ c.args.cache.now c.args.owners.now _ _ _ c.slot_size-size.ensures c.own_slot.ensures c.in-Got.is in
     omega (arith, held.row_room)
 
 pub overflow_add-slot : goal.overflow_add-slot
 overflow_add-slot c =
-    let held = holds _ _ _ _ _ c.slot_size-size.ensures (sym (rw c.in-Got.is at (c.own_slot.ensures c.args.cache.now refl))) in
+    let held =
+    own-held _ _ c.args.cache.now c.args.owners.now _ _ _ c.slot_size-size.ensures c.own_slot.ensures c.in-Got.is in
     omega (arith, held.row_room)
 
 pub overflow_mul-slot-in-Got : goal.overflow_mul-slot-in-Got
 overflow_mul-slot-in-Got c =
-    let held = holds _ _ _ _ _ c.slot_size-size.ensures (sym (rw c.in-Got.is at (c.own_slot.ensures c.args.cache.now refl))) in
+    let held =
+    own-held _ _ c.args.cache.now c.args.owners.now _ _ _ c.slot_size-size.ensures c.own_slot.ensures c.in-Got.is in
     omega (arith, held.room)
 
 pub constant_in-requires : goal.constant_in-requires
 constant_in-requires c =
-    let x = holds _ _ _ _ _ c.slot_size-size.ensures (sym (rw c.in-Got.is at (c.own_slot.ensures c.args.cache.now refl))) in
+    let x =
+    own-held _ _ c.args.cache.now c.args.owners.now _ _ _ c.slot_size-size.ensures c.own_slot.ensures c.in-Got.is in
     omega (arith, c.word_at-kept.ensures, x.fits, x.room)
 
 pub returns-in-Stop : goal.returns-in-Stop
@@ -40,4 +44,4 @@ returns-in-Got c =
     let z = c.slot_size-size in
     let a = c.args in
     fetch-post _ _ _ _ _
-    (c.constant_in.ensures ∙ fetch-there _ _ _ (holds _ _ _ _ _ c.slot_size-size.ensures (sym (rw c.in-Got.is at (c.own_slot.ensures c.args.cache.now refl)))) a.index _ c.word_at-kept.ensures z.ensures)
+    (c.constant_in.ensures ∙ fetch-there _ _ _ (own-held _ _ c.args.cache.now c.args.owners.now _ _ _ c.slot_size-size.ensures c.own_slot.ensures c.in-Got.is) a.index _ c.word_at-kept.ensures z.ensures)

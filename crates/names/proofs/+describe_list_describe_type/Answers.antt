@@ -1,16 +1,16 @@
 -- The proof of the cycle of calls {describe_list, describe_type}. A list of a row calls types of earlier rows and the
 -- rest of itself, and a type calls lists of its own row: row number and list items left fall. Assumes nothing.
-use mathlib.Core.Path.{refl, ap, ◌∙◌}
+use mathlib.Core.Path.{refl}
 use native.Mathlib.Omega.{arith}
 use lib.ListN.{get_or}
 use Rattle.format.specs.Names.{named}
 use Rattle.sheet.specs.Store.{words_in}
 use Rattle.sheet.proofs.LawsWords.{length-words_in}
 use Rattle.text.specs.Text.{Put}
-use Rattle.text.proofs.LawsText.{put_as, put-stopped}
+use Rattle.text.proofs.LawsText.{put-stopped}
 use Rattle.kinds.specs.Parts.{part_text}
 use Rattle.names.proofs.LawsDescribed.{earlier}
-use Rattle.names.proofs.LawsListed.{earlier-named, later-named, put-into, list-empty, list-last, list-next}
+use Rattle.names.proofs.LawsListed.{put-earlier, put-later, list-empty, list-last, list-next}
 use Rattle.names.proofs.LawsName.{first-inside, second-inside, type-named, function-named}
 use Rattle.names.proofs.+describe_list_describe_type.Goals as goal
 use Rattle.names.proofs.+describe_list_describe_type.Goals.{describe_list-then-index-row, describe_list-else-index-row}
@@ -31,16 +31,14 @@ pub describe_list-returns-then-left-eq1 : goal.describe_list-returns-then-left-e
 describe_list-returns-then-left-eq1 t c =
     let s = c.args.sheet.now in
     let row = c.args.row in
-    let i = c.word_at-index in
-    let same = ap (named (earlier s row)) i.ensures in
+    let rows = c.requires.row_in_bounds in
+    let i = c.word_at-index.ensures in
     let next : Put (named (earlier s row) (get_or (words_in s) c.args.word 0)) c.args.pen c.args.out.now c.if-index-row.out c.if-index-row.named =
     elim c.if-index-row.branch [
       | describe_list-then-index-row w ↦
-          put-into w.out-is w.named-is
-          (put_as (earlier-named s row c.requires.row_in_bounds i.result w.if-index-row.true ∙ same) w.describe_type-named.ensures)
+          put-earlier s row rows _ i w.if-index-row.true w.out-is w.named-is w.describe_type-named.ensures
       | describe_list-else-index-row w ↦
-          put-into w.out-is w.named-is
-          (put_as (later-named s row c.requires.row_in_bounds i.result w.if-index-row.false ∙ same) w.put_byte-named.ensures)
+          put-later s row rows _ i w.if-index-row.false w.out-is w.named-is w.put_byte-named.ensures
     ]
     in
     list-last _ row _ _ c.requires.left_in_bounds c.if-left-eq1.true next
@@ -62,16 +60,14 @@ pub describe_list-returns : goal.describe_list-returns
 describe_list-returns t c =
     let s = c.args.sheet.now in
     let row = c.args.row in
-    let i = c.word_at-index in
-    let same = ap (named (earlier s row)) i.ensures in
+    let rows = c.requires.row_in_bounds in
+    let i = c.word_at-index.ensures in
     let next : Put (named (earlier s row) (get_or (words_in s) c.args.word 0)) c.args.pen c.args.out.now c.if-index-row.out c.if-index-row.named =
     elim c.if-index-row.branch [
       | describe_list-then-index-row w ↦
-          put-into w.out-is w.named-is
-          (put_as (earlier-named s row c.requires.row_in_bounds i.result w.if-index-row.true ∙ same) w.describe_type-named.ensures)
+          put-earlier s row rows _ i w.if-index-row.true w.out-is w.named-is w.describe_type-named.ensures
       | describe_list-else-index-row w ↦
-          put-into w.out-is w.named-is
-          (put_as (later-named s row c.requires.row_in_bounds i.result w.if-index-row.false ∙ same) w.put_byte-named.ensures)
+          put-later s row rows _ i w.if-index-row.false w.out-is w.named-is w.put_byte-named.ensures
     ]
     in
     list-next _ row _ _ c.requires.left_in_bounds c.if-left-eq0.false c.if-left-eq1.false next c.put_text-separated.ensures c.describe_list.ensures
