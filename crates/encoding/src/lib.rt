@@ -29,19 +29,11 @@ pub enum FloatType {
     F8E5M2,
 }
 
-// What a writer answers: the writer behind its bytes, or a refusal's number.
-#[derive(Clone, Copy)]
-pub enum Written {
-    Next(EncodingWriter),
-    Refused(u8),
-}
+// What a writer answers: the writer behind its bytes, or why they are not written.
+pub type Written = Result<EncodingWriter, Refusal>;
 
-// What a patch answers: the place behind its bytes, or a refusal's number.
-#[derive(Clone, Copy)]
-pub enum Patched {
-    Next(usize),
-    Refused(u8),
-}
+// What a patch answers: the place behind its bytes, or why they are not written.
+pub type Patched = Result<usize, Refusal>;
 
 // The bits of a signed number, in two's complement.
 pub fn bits_of_i64(value: i64) -> u64
@@ -256,13 +248,13 @@ impl EncodingWriter {
     }
 
     // The writer at another place.
-    fn moved(self, at: usize) -> Written
-        ensures { result ≡ Written.Next (record { at = at; required_alignment = self.required_alignment }) }
+    fn moved(self, at: usize) -> Self
+        ensures { result ≡ record { at = at; required_alignment = self.required_alignment } }
     {
-        Written::Next(Self {
+        Self {
             at,
             required_alignment: self.required_alignment,
-        })
+        }
     }
 
     pub fn write_byte(self, out: &mut [u8], b: u8) -> Written
@@ -271,9 +263,9 @@ impl EncodingWriter {
         let at = self.at;
         if has_room(out.len(), at, 1) {
             out[at] = b;
-            return self.moved(at + 1);
+            return Ok(self.moved(at + 1));
         }
-        Written::Refused(Refusal::FULL)
+        Err(Refusal::Full)
     }
 
     pub fn write_bytes(self, out: &mut [u8], data: &[u8]) -> Written
@@ -282,9 +274,9 @@ impl EncodingWriter {
         let at = self.at;
         if has_room(out.len(), at, data.len()) {
             put_bytes(out, at, data);
-            return self.moved(at + data.len());
+            return Ok(self.moved(at + data.len()));
         }
-        Written::Refused(Refusal::FULL)
+        Err(Refusal::Full)
     }
 
     // Write an unsigned variable-length integer (LEB128-style, 7 bits per byte, high bit = continuation). One below 128
@@ -298,9 +290,9 @@ impl EncodingWriter {
         let at = self.at;
         if varint_has_room(out.len(), at, value) {
             let next = put_varint(out, at, value);
-            return self.moved(next);
+            return Ok(self.moved(next));
         }
-        Written::Refused(Refusal::FULL)
+        Err(Refusal::Full)
     }
 
     // Write a signed variable-length integer using zigzag encoding.
@@ -317,9 +309,9 @@ impl EncodingWriter {
         let at = self.at;
         if has_room(out.len(), at, width) {
             put_le(out, at, value, width);
-            return self.moved(at + width);
+            return Ok(self.moved(at + width));
         }
-        Written::Refused(Refusal::FULL)
+        Err(Refusal::Full)
     }
 
     pub fn write_le_u8(self, out: &mut [u8], value: u8) -> Written
@@ -392,9 +384,9 @@ impl EncodingWriter {
         if array_has_room(out.len(), at, count, 8) {
             let start = put_varint(out, at, count as u64);
             put_le_i64s(out, start, values);
-            return self.moved(start + count * 8);
+            return Ok(self.moved(start + count * 8));
         }
-        Written::Refused(Refusal::FULL)
+        Err(Refusal::Full)
     }
 
     // Write `count` as a varint, then the values as little-endian i32.
@@ -406,9 +398,9 @@ impl EncodingWriter {
         if array_has_room(out.len(), at, count, 4) {
             let start = put_varint(out, at, count as u64);
             put_le_i32s(out, start, values);
-            return self.moved(start + count * 4);
+            return Ok(self.moved(start + count * 4));
         }
-        Written::Refused(Refusal::FULL)
+        Err(Refusal::Full)
     }
 
     // Pad the output so that the next place is aligned to `alignment`.
@@ -419,9 +411,9 @@ impl EncodingWriter {
         let padding = padding_to(alignment, at);
         if has_room(out.len(), at, padding) {
             put_repeated(out, at, padding, enums::ALIGNMENT_BYTE);
-            return self.asked(alignment).moved(at + padding);
+            return Ok(self.asked(alignment).moved(at + padding));
         }
-        Written::Refused(Refusal::FULL)
+        Err(Refusal::Full)
     }
 
     pub fn tell(self) -> usize
@@ -459,9 +451,9 @@ fn patch_le(buf: &mut [u8], offset: usize, value: u64, width: usize) -> Patched
 {
     if has_room(buf.len(), offset, width) {
         put_le(buf, offset, value, width);
-        return Patched::Next(offset + width);
+        return Ok(offset + width);
     }
-    Patched::Refused(Refusal::ABSENT)
+    Err(Refusal::Absent)
 }
 
 // Patch a `u32` value at `offset` in the buffer (little-endian).

@@ -1,2 +1,3 @@
 pub mod LawsVersion
 pub mod LawsDebug
+pub mod LawsNumbered

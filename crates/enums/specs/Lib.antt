@@ -3,3 +3,4 @@ pub mod Types
 pub mod Debug
 pub mod Refusals
 pub mod Version
+pub mod Numbered

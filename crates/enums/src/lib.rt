@@ -7,6 +7,7 @@ ghost use Rattle.enums.specs.Container as container;
 ghost use Rattle.enums.specs.Types as types;
 ghost use Rattle.enums.specs.Debug as debug;
 ghost use Rattle.enums.specs.Refusals as refusals;
+ghost use Rattle.enums.specs.Numbered.{id_of, number_of, stage_number};
 ghost use Rattle.enums.specs.Version.{class_of, at_least, since13_3, since13_4};
 
 // The byte that fills alignment padding.
@@ -22,9 +23,19 @@ pub fn magic() -> [u8; 8]
     MAGIC
 }
 
-// The id of a section: the low seven bits of the byte that opens it.
-#[derive(Clone, Copy)]
-pub struct Section(pub u8);
+// A section that has a payload, in reading order.
+#[derive(Clone, Copy, PartialEq, Eq)]
+pub enum Section {
+    String,
+    Producer,
+    Type,
+    Constant,
+    Global,
+    Func,
+    Debug,
+}
+
+// Its id is the low seven bits of the byte that opens it.
 
 impl Section {
     pub const END_OF_BYTECODE: u8 = 0x00;
@@ -57,6 +68,21 @@ impl Section {
             Section::GLOBAL,
             Section::PRODUCER,
         ]
+    }
+
+    // The id of this section.
+    pub fn id(self) -> u8
+        ensures { result ≡ id_of self }
+    {
+        match self {
+            Section::String => Section::STRING,
+            Section::Producer => Section::PRODUCER,
+            Section::Type => Section::TYPE,
+            Section::Constant => Section::CONSTANT,
+            Section::Global => Section::GLOBAL,
+            Section::Func => Section::FUNC,
+            Section::Debug => Section::DEBUG,
+        }
     }
 }
 
@@ -234,9 +260,27 @@ pub struct IdPosition(pub usize);
 #[derive(Clone, Copy)]
 pub struct BytePosition(pub usize);
 
-// A refusal: document 01's number.
-#[derive(Clone, Copy)]
-pub struct Refusal(pub u8);
+// Why a call is refused.
+#[derive(Clone, Copy, PartialEq, Eq)]
+pub enum Refusal {
+    Limit,
+    Short,
+    Overlong,
+    Magic,
+    Padding,
+    Bounds,
+    Producer,
+    TypeTag,
+    DebugTag,
+    Hints,
+    Full,
+    Sheet,
+    Start,
+    Absent,
+    NoSlot,
+}
+
+// Document 01's number of each refusal.
 
 impl Refusal {
     pub const LIMIT: u8 = 1;
@@ -291,11 +335,48 @@ impl Refusal {
             Refusal::NO_SLOT,
         ]
     }
+
+    // The number of this refusal.
+    pub fn number(self) -> u8
+        ensures { result ≡ number_of self }
+    {
+        match self {
+            Refusal::Limit => Refusal::LIMIT,
+            Refusal::Short => Refusal::SHORT,
+            Refusal::Overlong => Refusal::OVERLONG,
+            Refusal::Magic => Refusal::MAGIC,
+            Refusal::Padding => Refusal::PADDING,
+            Refusal::Bounds => Refusal::BOUNDS,
+            Refusal::Producer => Refusal::PRODUCER,
+            Refusal::TypeTag => Refusal::TYPE_TAG,
+            Refusal::DebugTag => Refusal::DEBUG_TAG,
+            Refusal::Hints => Refusal::HINTS,
+            Refusal::Full => Refusal::FULL,
+            Refusal::Sheet => Refusal::SHEET,
+            Refusal::Start => Refusal::START,
+            Refusal::Absent => Refusal::ABSENT,
+            Refusal::NoSlot => Refusal::NO_SLOT,
+        }
+    }
 }
 
 // The stage at which a call was refused.
-#[derive(Clone, Copy)]
-pub struct Stage(pub u8);
+#[derive(Clone, Copy, PartialEq, Eq)]
+pub enum Stage {
+    Limits,
+    Header,
+    Sections,
+    String,
+    Producer,
+    Type,
+    Constant,
+    Global,
+    Func,
+    Debug,
+    Call,
+}
+
+// Document 01's number of each stage.
 
 impl Stage {
     pub const LIMITS: u8 = 0;
@@ -338,18 +419,37 @@ impl Stage {
             Stage::CALL,
         ]
     }
+
+    // The number of this stage.
+    pub fn number(self) -> u8
+        ensures { result ≡ stage_number self }
+    {
+        match self {
+            Stage::Limits => Stage::LIMITS,
+            Stage::Header => Stage::HEADER,
+            Stage::Sections => Stage::SECTIONS,
+            Stage::String => Stage::STRING,
+            Stage::Producer => Stage::PRODUCER,
+            Stage::Type => Stage::TYPE,
+            Stage::Constant => Stage::CONSTANT,
+            Stage::Global => Stage::GLOBAL,
+            Stage::Func => Stage::FUNC,
+            Stage::Debug => Stage::DEBUG,
+            Stage::Call => Stage::CALL,
+        }
+    }
 }
 
 // A bytecode version: major.minor.tag.
-#[derive(Clone, Copy)]
+#[derive(Clone, Copy, PartialEq, Eq, PartialOrd, Ord)]
 pub struct BytecodeVersion {
     pub major: u8,
     pub minor: u8,
     pub tag: u16,
 }
 
-// The three classes of versions that the layout knows.
-#[derive(Clone, Copy)]
+// The three classes of versions that the layout knows, the earliest first.
+#[derive(Clone, Copy, PartialEq, Eq, PartialOrd, Ord)]
 pub enum VersionClass {
     Below13_3,
     From13_3,
@@ -361,22 +461,14 @@ impl VersionClass {
     pub fn from_13_3(self) -> bool
         ensures { result ≡ since13_3 self }
     {
-        match self {
-            VersionClass::Below13_3 => false,
-            VersionClass::From13_3 => true,
-            VersionClass::From13_4 => true,
-        }
+        VersionClass::From13_3 <= self
     }
 
     // Whether they are 13.4 or later.
     pub fn from_13_4(self) -> bool
         ensures { result ≡ since13_4 self }
     {
-        match self {
-            VersionClass::Below13_3 => false,
-            VersionClass::From13_3 => false,
-            VersionClass::From13_4 => true,
-        }
+        VersionClass::From13_4 <= self
     }
 }
 
@@ -385,13 +477,7 @@ impl BytecodeVersion {
     pub fn at_least(self, major: u8, minor: u8) -> bool
         ensures { result ≡ at_least self.major self.minor major minor }
     {
-        if self.major < major {
-            return false;
-        }
-        if major < self.major {
-            return true;
-        }
-        minor <= self.minor
+        (major, minor) <= (self.major, self.minor)
     }
 
     // The class of this version; the tag does not matter, since each class begins at tag 0.

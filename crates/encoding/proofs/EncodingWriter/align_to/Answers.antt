@@ -9,20 +9,20 @@ use Rattle.enums.specs.Container.{P}
 use Rattle.encoding.specs.Out.{put}
 use Rattle.encoding.specs.Shown.{Writes, asked}
 use Rattle.encoding.specs.declared.EncodingWriter.{EncodingWriter}
-use Rattle.encoding.specs.declared.Written.{Written}
-use Rattle.encoding.specs.declared.Written.TheVariants.{Next}
+use Rattle.std.specs.Prelude.{Result, Ok}
+use Rattle.enums.specs.declared.Refusal.{Refusal}
 use Rattle.encoding.proofs.LawsWritten.{writes-room, writes-full}
 use Rattle.encoding.proofs.EncodingWriter.align_to.Goals as goal
 
 -- Padding that had room, by the code's own count of it and the code's own writer.
-padded : (w : EncodingWriter) (a : ℕ) {n : ℕ} {v : EncodingWriter} {out out' : List ℕ} {r : Written} → n ≡ gap a w.at →
+padded : (w : EncodingWriter) (a : ℕ) {n : ℕ} {v : EncodingWriter} {out out' : List ℕ} {r : Result EncodingWriter Refusal} → n ≡ gap a w.at →
     v ≡ asked w a → w.at + n ≤ length out → out' ≡ put out w.at (replicate n P) →
-    r ≡ Next (record { at = w.at + n; required_alignment = v.required_alignment }) →
+    r ≡ Ok (record { at = w.at + n; required_alignment = v.required_alignment }) →
     Writes (asked w a) (replicate (gap a w.at) P) out out' r
 padded w a {n} {v} {out} e q h o m =
     writes-room (asked w a) n (length-replicate (gap a w.at) P ∙ sym e) h
     (o ∙ ap (λ (k : ℕ). put out w.at (replicate k P)) e)
-    (m ∙ ap (λ (x : EncodingWriter). Next (record { at = w.at + n; required_alignment = x.required_alignment })) q)
+    (m ∙ ap (λ (x : EncodingWriter). Ok (record { at = w.at + n; required_alignment = x.required_alignment })) q)
 
 pub put_repeated-requires : goal.put_repeated-requires
 put_repeated-requires c = c.has_room.ensures.holds c.if-has_room.true
@@ -35,8 +35,7 @@ returns-then-has_room c =
     let h = c.has_room.ensures.holds c.if-has_room.true in
     let a = c.args in
     let e = c.padding_to-padding.ensures in
-    padded a.self a.alignment e c.asked.ensures h
-    c.put_repeated.ensures c.moved.ensures
+    padded a.self a.alignment e c.asked.ensures h c.put_repeated.ensures (ap Ok c.moved.ensures)
 
 pub returns : goal.returns
 returns c =

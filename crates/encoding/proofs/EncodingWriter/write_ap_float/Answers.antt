@@ -14,12 +14,13 @@ use Rattle.encoding.specs.Floats.{FloatBytes, as_bits, as_e4m3fn, as_e5m2, Write
 use Rattle.encoding.specs.declared.EncodingWriter.{EncodingWriter}
 use Rattle.encoding.specs.declared.FloatType.{FloatType}
 use Rattle.encoding.specs.declared.FloatType.TheVariants.{F64}
-use Rattle.encoding.specs.declared.Written.{Written}
+use Rattle.std.specs.Prelude.{Result}
+use Rattle.enums.specs.declared.Refusal.{Refusal}
 use Rattle.encoding.proofs.LawsSigned.{signed-fits}
 use Rattle.encoding.proofs.LawsOut.{puts-as}
 use Rattle.encoding.proofs.EncodingWriter.write_ap_float.Goals as goal
 
-module _ {w : EncodingWriter} {bits : ℕ} {ty : FloatType} {out out' : List ℕ} {r : Written} where
+module _ {w : EncodingWriter} {bits : ℕ} {ty : FloatType} {out out' : List ℕ} {r : Result EncodingWriter Refusal} where
   told : (bs : List ℕ) → FloatBytes bits ty bs → Writes w bs out out' r → WritesFloat w bits ty out out' r
   told bs s h = record { bytes = bs; spelt = s; written = h }
 

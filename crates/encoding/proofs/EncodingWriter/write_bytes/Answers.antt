@@ -1,6 +1,7 @@
 -- `write_bytes` writes a run of bytes. Assumes nothing.
-use mathlib.Core.Path.{refl}
+use mathlib.Core.Path.{refl, ap}
 use native.Mathlib.Omega.{arith}
+use Rattle.std.specs.Prelude.{Ok}
 use Rattle.encoding.proofs.LawsWritten.{writes-room, writes-full}
 use Rattle.encoding.proofs.EncodingWriter.write_bytes.Goals as goal
 
@@ -14,7 +15,7 @@ pub returns-then-has_room : goal.returns-then-has_room
 returns-then-has_room c =
     let h = c.has_room.ensures.holds c.if-has_room.true in
     let w = c.args.self in
-    writes-room w _ refl h c.put_bytes.ensures c.moved.ensures
+    writes-room w _ refl h c.put_bytes.ensures (ap Ok c.moved.ensures)
 
 pub returns : goal.returns
 returns c =

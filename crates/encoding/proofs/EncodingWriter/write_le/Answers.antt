@@ -1,5 +1,7 @@
 -- `write_le` writes a number, once over the width. Assumes nothing.
+use mathlib.Core.Path.{ap}
 use native.Mathlib.Omega.{arith}
+use Rattle.std.specs.Prelude.{Ok}
 use Rattle.exact.proofs.LawsFixed.{length-bytes_of}
 use Rattle.encoding.proofs.LawsWritten.{writes-room, writes-full}
 use Rattle.encoding.proofs.EncodingWriter.write_le.Goals as goal
@@ -14,7 +16,7 @@ pub returns-then-has_room : goal.returns-then-has_room
 returns-then-has_room c =
     let h = c.has_room.ensures.holds c.if-has_room.true in
     let w = c.args.self in
-    writes-room w _ (length-bytes_of _ _) h c.put_le.ensures c.moved.ensures
+    writes-room w _ (length-bytes_of _ _) h c.put_le.ensures (ap Ok c.moved.ensures)
 
 pub returns : goal.returns
 returns c =

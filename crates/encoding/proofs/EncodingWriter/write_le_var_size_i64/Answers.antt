@@ -2,6 +2,7 @@
 use mathlib.Core.Path.{ap, ◌∙◌}
 use native.Mathlib.Omega.{arith}
 use lib.ListN.{length}
+use Rattle.std.specs.Prelude.{Ok}
 use Rattle.encoding.specs.Signed.{pattern}
 use Rattle.encoding.proofs.LawsOut.{length-put}
 use Rattle.encoding.proofs.LawsWritten.{array-room, array-full}
@@ -25,7 +26,7 @@ returns-then-array_has_room c =
     let h = c.array_has_room.ensures.holds c.if-array_has_room.true in
     let a = c.args in
     array-room 8 (pattern 64) a.values.now a.self h c.put_varint-start.ensures.place c.put_varint-start.ensures.output
-    c.put_le_i64s.ensures c.moved.ensures
+    c.put_le_i64s.ensures (ap Ok c.moved.ensures)
 
 pub returns : goal.returns
 returns c =

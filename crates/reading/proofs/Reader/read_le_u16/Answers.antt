@@ -1,18 +1,11 @@
 -- `read_le_u16` answers the number of two bytes there, or that the data ends inside it. Assumes nothing.
+use mathlib.Core.Path.{sym}
 use native.Mathlib.Omega.{arith}
-use Rattle.reading.proofs.LawsPlaced.{run-got, run-word, run-stop}
-use Rattle.reading.proofs.LawsShown.{told-bytes}
+use Rattle.reading.proofs.LawsPlaced.{run-got, run-word}
 use Rattle.reading.proofs.Reader.read_le_u16.Goals as goal
 
 pub u16_at-requires : goal.u16_at-requires
-u16_at-requires c =
-    let t = told-bytes _ c.in-Got.is c.read_bytes.ensures in
-    omega (arith, run-got 2 _ _ _ _ _ t)
+u16_at-requires c = omega (arith, run-got 2 _ _ _ _ _ (sym c.in_ok-start.ensures))
 
-pub returns-in-Stop : goal.returns-in-Stop
-returns-in-Stop c = run-stop 2 _ _ _ _ (told-bytes _ c.in-Stop.is c.read_bytes.ensures)
-
-pub returns-in-Got : goal.returns-in-Got
-returns-in-Got c =
-    let t = told-bytes _ c.in-Got.is c.read_bytes.ensures in
-    run-word 2 _ _ _ _ _ _ t c.u16_at.ensures
+pub returns : goal.returns
+returns c = run-word 2 _ _ _ _ _ _ (sym c.in_ok-start.ensures) c.u16_at.ensures
