@@ -7,7 +7,7 @@ ghost use Rattle.encoding.specs.Out.{put};
 ghost use Rattle.sheet.specs.Store.{put_word, words_in};
 
 use encoding::EncodingWriter;
-use reading::{NumRead, Reader};
+use reading::Reader;
 
 // Stores word i where the store has it, and else nothing. It lends the word's own eight bytes: the compiler sees that
 // they have room.
@@ -17,7 +17,7 @@ pub fn put_word(store: &mut [u8], i: usize, w: u64)
     if i < store.len() / 8 {
         let start = i * 8;
         let end = start + 8;
-        encoding::patch_u64(&mut store[start..end], 0, w);
+        let _ = encoding::patch_u64(&mut store[start..end], 0, w);
     }
 }
 
@@ -29,8 +29,8 @@ pub fn word_at(store: &[u8], i: usize) -> u64
         return 0;
     }
     match (Reader { pos: i * 8 }).read_le_u64(store) {
-        NumRead::Stop(_) => 0,
-        NumRead::Got(w, _) => w,
+        Err(_) => 0,
+        Ok((w, _)) => w,
     }
 }
 
@@ -42,7 +42,7 @@ pub fn put_run(pool: &mut [u8], at: usize, run: &[u8])
         at,
         required_alignment: 1,
     };
-    writer.write_bytes(pool, run);
+    let _ = writer.write_bytes(pool, run);
 }
 
 // How many bytes of a long run are stored at once.
