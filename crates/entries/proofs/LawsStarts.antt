@@ -14,12 +14,12 @@ use Rattle.exact.specs.Repeat.{times}
 use Rattle.exact.specs.Fixed.{fixed, nums}
 use Rattle.exact.proofs.LawsExact.{stop-not-got, got-value}
 use Rattle.exact.proofs.LawsChoice.{choose_yes, choose_no}
-use Rattle.exact.proofs.LawsSequence.{bind-got, bind-stop}
+use Rattle.exact.proofs.LawsSequence.{bind-got}
 use Rattle.exact.proofs.LawsSteps.{times-at, times-end}
 use Rattle.enums.specs.Refusals as refusals
-use Rattle.reading.specs.Numbers.{varint_at, padding_at, placed}
+use Rattle.reading.specs.Numbers.{varint_at, placed}
 use Rattle.reading.proofs.LawsPlaced.{placed_at, placed_end}
-use Rattle.entries.specs.Starts.{wide, behind_count, no_starts, starts_at, array_at, or_else, number_or, bounded, end_at}
+use Rattle.entries.specs.Starts.{wide, no_starts, starts_at, or_else, number_or, bounded, end_at}
 use Rattle.entries.specs.declared.starts.Width.{Width}
 use Rattle.entries.specs.declared.starts.Width.TheVariants as width
 
@@ -51,41 +51,12 @@ module _ (w : ℕ) (l : List ℕ) (i count left : ℕ) (rest : left ≡ length l
       sym (placed_end (times count (fixed w)) l i _ _ (times-end count w l i (left / w) h a b))
 
 -- Behind the count: the padding was refused, or the starts stand behind it.
-module _ (w a n : ℕ) (l : List ℕ) (i : ℕ) where
-  pub padding-stop : (c k : ℕ) → padding_at a l i ≡ stop c k → stop c k ≡ behind_count w a n l i
-  unfolding behind_count
-  padding-stop c k e = sym (bind-stop (padding_at a) _ l i c k (sym e))
-
-  pub padding-got : (j : ℕ) → padding_at a l i ≡ got tt j → placed (times n (fixed w)) l j ≡ behind_count w a n l i
-  unfolding behind_count
-  padding-got j e = sym (bind-got (padding_at a) _ l i tt j (sym e))
-
 module _ (w a : ℕ) (l : List ℕ) (i : ℕ) where
-  -- The count of a table was refused, ..
-  pub count-stop : (c k : ℕ) → varint_at l i ≡ stop c k → stop c k ≡ starts_at w a l i
-  unfolding starts_at
-  count-stop c k e = sym (bind-stop varint_at _ l i c k (sym e))
-
   -- .. is 0 ..
   pub count_none : (n j : ℕ) → varint_at l i ≡ got n j → n ≡ 0 → got (length l, []) (length l) ≡ starts_at w a l i
   unfolding starts_at no_starts
   count_none n j e z =
       sym (bind-got varint_at _ l i n j (sym e) ∙ ap (λ (p : Parser (ℕ × List ℕ)). p l j) (choose_yes (ℕ_discrete n 0) _ _ z))
-
-  -- .. or more.
-  pub count-some : (n j : ℕ) → varint_at l i ≡ got n j → ¬ (n ≡ 0) → behind_count w a n l j ≡ starts_at w a l i
-  unfolding starts_at
-  count-some n j e z =
-      sym (bind-got varint_at _ l i n j (sym e) ∙ ap (λ (p : Parser (ℕ × List ℕ)). p l j) (choose_no (ℕ_discrete n 0) _ _ z))
-
-  -- The same of an array.
-  pub array-stop : (c k : ℕ) → varint_at l i ≡ stop c k → stop c k ≡ array_at w a l i
-  unfolding array_at
-  array-stop c k e = sym (bind-stop varint_at _ l i c k (sym e))
-
-  pub array-got : (n j : ℕ) → varint_at l i ≡ got n j → behind_count w a n l j ≡ array_at w a l i
-  unfolding array_at
-  array-got n j e = sym (bind-got varint_at _ l i n j (sym e))
 
 -- A number that is read, or another in its place.
 module _ (w v : ℕ) (l : List ℕ) (i : ℕ) where
@@ -121,9 +92,6 @@ module _ (w m n s : ℕ) (l : List ℕ) (i e j : ℕ) (next : got e j ≡ number
   end_is : bounded m n s e j ≡ end_at w m n s l i
   unfolding end_at follow
   end_is = rw (← next)
-
-  pub end-outside : n < e → stop refusals.bounds 0 ≡ end_at w m n s l i
-  end-outside h = bounded-outside m n s e j h ∙ end_is
 
   pub end_short : e < s + m → stop refusals.bounds 0 ≡ end_at w m n s l i
   end_short h = let k : ¬ (s + m ≤ e) = omega arith in bounded-short m n s e j k ∙ end_is

@@ -19,7 +19,7 @@ use Rattle.exact.specs.Repeat.{times, counted}
 use Rattle.exact.specs.Fixed.{raw, fixed, nums}
 use Rattle.exact.specs.Padding.{here}
 use Rattle.exact.proofs.LawsExact.{stop-not-got, got-value, got-next}
-use Rattle.exact.proofs.LawsSequence.{follow-inv, bind-got, bind-stop}
+use Rattle.exact.proofs.LawsSequence.{follow-inv, bind-got}
 use Rattle.exact.proofs.LawsSteps.{raw_at, raw-end, times-at, times-end}
 use Rattle.exact.proofs.LawsFixed.{length-nums}
 use Rattle.reading.specs.Numbers.{varint_at, placed, items_at, counted_at}
@@ -96,11 +96,6 @@ array_number w s i {bs} {j} {v} some e h =
     rw e (ap (λ n. got n j) (h ∙ from_le-little w bs some (length-raw (byte_len w) s i bs j e)))
 
 module _ (w : ℕ) (s : List ℕ) (i : ℕ) where
-  -- The count was refused.
-  pub items-stop : (c k : ℕ) → varint_at s i ≡ stop c k → stop c k ≡ items_at w s i
-  unfolding items_at
-  items-stop c k e = sym (bind-stop varint_at _ s i c k (sym e))
-
   module _ (count start left : ℕ) (e : varint_at s i ≡ got count start) (rest : left ≡ length s - start) where
     -- As many numbers as there is room for end inside the data.
     pub items-room : start + left / w * w ≤ length s

@@ -11,24 +11,18 @@ use lib.Signed.{mag}
 use mir.Syntax.{Width}
 use mir.Val.{hbits, of_z, to_z}
 use mir.Facts.{to_z-of_z}
-use Rattle.exact.specs.Got.{got, stop, follow}
+use Rattle.exact.specs.Got.{got, follow}
 use Rattle.exact.specs.Exact.{Parser}
 use Rattle.exact.specs.Basic.{pure}
 use Rattle.exact.specs.Sequence.{bind, mapped}
 use Rattle.exact.proofs.LawsChoice.{choose_yes, choose_no}
 use Rattle.encoding.specs.Signed.{unzigzag, signed}
-use Rattle.encoding.proofs.LawsSigned.{zigzag-unzigzag, zigzag-fits}
 
 module _ {A B : Type 0} (f : A → B) (p : Parser A) (l : List ℕ) (i : ℕ) where
   -- A function of a value that was read ..
   pub map_at : (v : A) (j : ℕ) (w : B) → p l i ≡ got v j → w ≡ f v → got w j ≡ mapped f p l i
   unfolding mapped bind follow pure
   map_at v j w e h = rw (e, h)
-
-  -- .. and of a refusal.
-  pub map-end : (c k : ℕ) → p l i ≡ stop c k → stop c k ≡ mapped f p l i
-  unfolding mapped bind follow
-  map-end c k e = rw e
 
 -- An even number is the zigzag of its half ..
 pub unzigzag-even : (v : ℕ) → v < 2 ^ 64 → v % 2 ≡ 0 → signed 64 (v / 2) ≡ unzigzag v
@@ -60,7 +54,3 @@ signed-fits w v h =
           let m : ¬ (v < 2 ^ w) = rw z at l in
           rw (choose_no (dec_lt v (2 ^ (suc w - 1))) (pos v) (negsuc (2 ^ suc w - 1 - v)) l, pow-suc) (omega arith)
     ]
-
--- .. and the zigzag of 64 bits that of a number that fits them.
-pub unzigzag-fits : (v : ℕ) → v < 2 ^ 64 → mag (unzigzag v) < 2 ^ 63
-unzigzag-fits v h = (zigzag-fits (unzigzag v)).1 (rw zigzag-unzigzag h)
