@@ -1,25 +1,21 @@
 -- What the answers of header and walk stand for (document 01, "The container").
-use Rattle.std.specs.Prelude.{ℕ, ◌-◌, ◌%◌, false, List, map, eqb, length, take, drop, Result, Ok, Err}
-use Rattle.std.proofs.Math.Decide.{ℕ_discrete, dec_le}
+use Rattle.std.specs.Prelude.{ℕ, ◌-◌, true, false, List, map, eqb, length, take, drop, Option, None, Some, Result, Ok, Err}
+use Rattle.std.proofs.Math.Decide.{dec_le}
+use Rattle.std.proofs.Math.Option as Maybe
 use Rattle.exact.specs.Got.{Got, got}
-use Rattle.exact.specs.Exact.{Parser}
-use Rattle.exact.specs.Basic.{byte, pure}
-use Rattle.exact.specs.Sequence.{bind}
 use Rattle.exact.specs.Choice.{choose}
-use Rattle.enums.specs.Container.{end_of_bytecode, section_ids}
+use Rattle.enums.specs.Container.{section_ids}
 use Rattle.enums.specs.Refusals as refusals
 use Rattle.enums.specs.declared.BytecodeVersion.{BytecodeVersion}
 use Rattle.reading.specs.Shown.{got_by, stop_of}
 use Rattle.reading.specs.declared.Reader.{Reader}
 use Rattle.reading.specs.declared.Refused.{Refused}
-use Rattle.reading.specs.Numbers.{varint_at}
 use Rattle.format.specs.Tables.{Version}
 use Rattle.format.specs.Sections.{Section, Place}
 use Rattle.format.specs.Read.{Read, accepted, refused, at_stage}
-use Rattle.format.specs.DecodeContainer.{header_at, alignment_at, sections_at, places_of}
+use Rattle.format.specs.DecodeContainer.{header_at, sections_at, places_of}
 use Rattle.format.specs.Decode.{most_bytes}
 use Rattle.container.specs.declared.sections.SectionPlace.{SectionPlace}
-use Rattle.container.specs.declared.sections.SectionHeader.{SectionHeader}
 use Rattle.container.specs.declared.sections.RawSections.{RawSections}
 use Rattle.container.specs.declared.sections.Container.{Container}
 
@@ -35,14 +31,6 @@ version_of v = record { major = v.major; minor = v.minor; tag = v.tag }
 abbrev pub got_header : Result (BytecodeVersion × Reader) Refused → Got Version
 got_header = got_by (λ v r. version_of v)
 
--- What stands before a section's payload: its id, and how long the payload is. The end marker's is 0.
-unfoldable pub section_header_at : Parser SectionHeader
-section_header_at =
-    bind byte
-    (λ first. choose (ℕ_discrete (first % 128) end_of_bytecode)
-    (pure (record { id = first % 128; data_len = 0 }))
-    (bind varint_at (λ n. bind (alignment_at first) (λ u. pure (record { id = first % 128; data_len = n })))))
-
 -- A place as the code holds it: presence 1 is true.
 abbrev pub held_place : Place → SectionPlace
 held_place p = record { presence = eqb p.presence 1; start = p.start; len = p.size }
@@ -54,6 +42,19 @@ nowhere = record { presence = false; start = 0; len = 0 }
 -- The place of each id's payload, of these sections.
 abbrev pub held_places : List Section → List SectionPlace
 held_places ss = map held_place (places_of ss section_ids)
+
+-- The place of a section's payload.
+abbrev pub place_in : Section → SectionPlace
+place_in s = record { presence = true; start = s.start; len = length s.payload }
+
+-- A section as the walk meets it: its id and its place ..
+abbrev pub held_section : Section → ℕ × SectionPlace
+held_section s = (s.id, place_in s)
+
+-- .. or the end marker.
+abbrev pub held_item : Maybe.Option Section → Option (ℕ × SectionPlace)
+held_item Maybe.none = None
+held_item (Maybe.some s) = Some (held_section s)
 
 -- These sections as the code holds them.
 abbrev pub held_sections : List Section → RawSections

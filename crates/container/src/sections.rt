@@ -1,12 +1,12 @@
 // decoder.rs's header, section walk and raw sections. Places count from the file's start.
-ghost use Rattle.std.specs.Prelude.{◌≡◌, ◌+◌, ◌≤◌, true, [], length, take, drop, get_or, set};
+ghost use Rattle.std.specs.Prelude.{◌≡◌, ◌+◌, ◌≤◌, [], length, take, drop, get_or, set};
 ghost use Rattle.enums.specs.Container as container;
 ghost use Rattle.exact.specs.Sequence.{mapped};
 ghost use Rattle.reading.specs.Shown.{got_of, got_padding};
 ghost use Rattle.format.specs.Read.{map_read};
-ghost use Rattle.format.specs.DecodeContainer.{same, magic_at, header_at, alignment_at, sections_at};
-ghost use Rattle.container.specs.Container.{got_run, got_header, section_header_at};
-ghost use Rattle.container.specs.Container.{nowhere, held_sections, opened, held_container};
+ghost use Rattle.format.specs.DecodeContainer.{same, magic_at, header_at, alignment_at, item_at, sections_at};
+ghost use Rattle.container.specs.Container.{got_run, got_header};
+ghost use Rattle.container.specs.Container.{nowhere, held_item, held_sections, opened, held_container};
 ghost use Rattle.container.specs.Shown.{read_of, stopped_at, stopped_call};
 
 use enums::{BytecodeVersion, NUM_SECTIONS, Refusal, Section, Stage};
@@ -48,24 +48,11 @@ impl Stopped {
 }
 
 // Where the payload of a section stands, if one is present.
-#[derive(Clone, Copy, PartialEq, Eq)]
+#[derive(Clone, Copy, Default, PartialEq, Eq)]
 pub struct SectionPlace {
     pub presence: bool,
     pub start: usize,
     pub len: usize,
-}
-
-impl SectionPlace {
-    // The place of a payload that is not there.
-    fn nowhere() -> Self
-        ensures { result ≡ nowhere }
-    {
-        SectionPlace {
-            presence: false,
-            start: 0,
-            len: 0,
-        }
-    }
 }
 
 // The place of each id's payload.
@@ -81,21 +68,17 @@ impl RawSections {
         ensures { result ≡ held_sections [] }
     {
         RawSections {
-            places: [SectionPlace::nowhere(); 8],
+            places: [SectionPlace::default(); 8],
         }
     }
 
     // The last section with an id overwrites; ids at or above NUM_SECTIONS are passed over.
-    fn insert(self, id: u8, start: usize, len: usize) -> Self
-        ensures { result.places ≡ set self.places id (record { presence = true; start = start; len = len }) }
+    fn insert(self, id: u8, place: SectionPlace) -> Self
+        ensures { result.places ≡ set self.places id place }
     {
         let mut places = self.places;
         if id < NUM_SECTIONS {
-            places[id as usize] = SectionPlace {
-                presence: true,
-                start,
-                len,
-            };
+            places[id as usize] = place;
         }
         RawSections { places }
     }
@@ -107,16 +90,9 @@ impl RawSections {
         if id < NUM_SECTIONS as u64 {
             self.places[id as usize]
         } else {
-            SectionPlace::nowhere()
+            SectionPlace::default()
         }
     }
-}
-
-// What opens a section: its id, and how long its payload is.
-#[derive(Clone, Copy, PartialEq, Eq)]
-pub struct SectionHeader {
-    pub id: u8,
-    pub data_len: usize,
 }
 
 // Header and sections of a file.
@@ -171,19 +147,26 @@ fn skip_alignment(data: &[u8], r: Reader, id_and_align: u8) -> Result<Reader, Re
     next.skip_padding(data, alignment)
 }
 
-#[tactic(auto, unfolding(exact::specs::Got::follow, exact::specs::Basic::pure, exact::specs::Sequence::bind, crate::specs::Container::section_header_at), using(crate::proofs::LawsItem::low_seven, crate::proofs::LawsItem::end_marker, crate::proofs::LawsItem::no_end_marker))]
-fn read_section_header(data: &[u8], r: Reader) -> Read<SectionHeader>
-    ensures { got_of result ≡ section_header_at «data».now r.pos }
+// A section: its id, and where its payload stands; none at the end marker.
+#[tactic(auto, unfolding(exact::specs::Got::follow, exact::specs::Basic::pure, exact::specs::Sequence::bind, exact::specs::Sequence::mapped, exact::specs::Upto::place, format::specs::DecodeContainer::item_at, format::specs::DecodeContainer::section_at), using(crate::proofs::LawsItem::low_seven, crate::proofs::LawsItem::end_marker, crate::proofs::LawsItem::no_end_marker, crate::proofs::LawsItem::raw_placed))]
+fn read_section(data: &[u8], r: Reader) -> Read<Option<(u8, SectionPlace)>>
+    ensures { got_of result ≡ mapped held_item item_at «data».now r.pos }
 {
     let (id_and_align, r) = r.read_byte(data)?;
     let id = id_and_align & 0x7F;
     if id == Section::END_OF_BYTECODE {
-        return Ok((SectionHeader { id, data_len: 0 }, r));
+        return Ok((None, r));
     }
     let (length, r) = r.read_varint(data)?;
     let body = skip_alignment(data, r, id_and_align)?;
-    let data_len = length as usize;
-    Ok((SectionHeader { id, data_len }, body))
+    let len = length as usize;
+    let (start, next) = body.read_bytes(data, len)?;
+    let place = SectionPlace {
+        presence: true,
+        start,
+        len,
+    };
+    Ok((Some((id, place)), next))
 }
 
 // The walk: it stops behind the end marker; what follows is not read.
@@ -193,19 +176,12 @@ pub fn read_sections(data: &[u8], start: Reader) -> Read<RawSections>
     let mut sections = RawSections::new();
     let mut r = start;
     loop {
-        match read_section_header(data, r) {
+        match read_section(data, r) {
             Err(x) => break Err(x),
-            Ok((header, body)) => {
-                if header.id == Section::END_OF_BYTECODE {
-                    break Ok((sections, body));
-                }
-                match body.read_bytes(data, header.data_len) {
-                    Err(x) => break Err(x),
-                    Ok((at, next)) => {
-                        sections = sections.insert(header.id, at, header.data_len);
-                        r = next;
-                    }
-                }
+            Ok((None, end)) => break Ok((sections, end)),
+            Ok((Some((id, place)), next)) => {
+                sections = sections.insert(id, place);
+                r = next;
             }
         }
     }
