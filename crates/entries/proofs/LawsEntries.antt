@@ -1,5 +1,6 @@
 -- Starts in a payload, and the entries that they cut one by one: how a loop over them follows the model, over the width of
 -- a start, the padding before the starts, and what reads an entry. Assumes nothing.
+use Rattle.std.specs.Prelude.{Ok}
 use mathlib.Core.Path.{◌≡◌, refl, sym, ap, ◌∙◌, subst}
 use Prim.Native.Nat.{ℕ, zero, suc, ◌+◌, ◌*◌, ◌-◌, ◌≤◌, ◌<◌}
 use native.Mathlib.Nat.{zero-mul, add-zero, mul-le-mul_left}
@@ -36,19 +37,18 @@ use Rattle.format.specs.Strings.{no_rows}
 use Rattle.format.specs.DecodeTables.{shape, padded_at, offset_table_at}
 use Rattle.entries.specs.Starts.{behind_count, no_starts, starts_at, array_at, numbers_in, got_starts, Lies, number_or, end_at}
 use Rattle.entries.specs.declared.starts.Starts.{Starts}
-use Rattle.entries.specs.declared.starts.StartsRead.TheVariants as starts
 use Rattle.entries.proofs.LawsStarts.{number_read, number-other, end-got, end-stop}
 
 -- Starts that were read lie in the payload, with the data right behind them.
 module _ (w : ℕ) (l : List ℕ) (s : Starts) where
-  lies_placed : (n k : ℕ) → k ≤ length l → placed (times n (fixed w)) l k ≡ got_starts w l (starts.Got s) → Lies w l s
+  lies_placed : (n k : ℕ) → k ≤ length l → placed (times n (fixed w)) l k ≡ got_starts w l (Ok s) → Lies w l s
   lies_placed n k h e =
       let (a, t) = placed-got (times n (fixed w)) l k _ _ _ e in
       let (m, q, z) = times-got n w l k _ _ t in
       let c : s.count ≡ n = sym (length-nums s.count w (drop s.first l)) ∙ ap length q ∙ length-nums n w (drop k l) in
       record { behind = rw (a, c) z; inside = omega (arith, z, m) }
 
-  lies-behind : (a n j : ℕ) → j ≤ length l → behind_count w a n l j ≡ got_starts w l (starts.Got s) → Lies w l s
+  lies-behind : (a n j : ℕ) → j ≤ length l → behind_count w a n l j ≡ got_starts w l (Ok s) → Lies w l s
   unfolding behind_count bind
   lies-behind a n j h e =
       let (u, k, f, g) = follow-inv (padding_at a l j) _ _ _ e in
@@ -56,13 +56,13 @@ module _ (w : ℕ) (l : List ℕ) (s : Starts) where
       lies_placed n k (omega (arith, i.0, i.1)) g
 
   -- So do those of an array ..
-  pub array_lies : (a i : ℕ) → got_starts w l (starts.Got s) ≡ array_at w a l i → Lies w l s
+  pub array_lies : (a i : ℕ) → got_starts w l (Ok s) ≡ array_at w a l i → Lies w l s
   unfolding array_at bind
   array_lies a i e =
       let (n, j, f, g) = follow-inv (varint_at l i) (λ n j. behind_count w a n l j) _ _ (sym e) in
       lies-behind a n j (varint-in l i n j (sym f)).1 g
 
-  lies-none : (j : ℕ) → no_starts l j ≡ got_starts w l (starts.Got s) → Lies w l s
+  lies-none : (j : ℕ) → no_starts l j ≡ got_starts w l (Ok s) → Lies w l s
   unfolding no_starts
   lies-none j e =
       let v = got-value e in
@@ -72,13 +72,13 @@ module _ (w : ℕ) (l : List ℕ) (s : Starts) where
       record { behind = rw (c, f, d, zero-mul, add-zero) refl; inside = omega arith }
 
   -- .. and of a table.
-  pub starts-lie : (a i : ℕ) → got_starts w l (starts.Got s) ≡ starts_at w a l i → Lies w l s
+  pub starts-lie : (a i : ℕ) → got_starts w l (Ok s) ≡ starts_at w a l i → Lies w l s
   unfolding starts_at bind choose
   starts-lie a i e =
       let (n, j, f, g) = follow-inv (varint_at l i) (λ n j. choose (ℕ_discrete n 0) no_starts (behind_count w a n) l j) _ _ (sym e) in
       go n j (ℕ_discrete n 0) f g
     where
-      go : (n j : ℕ) (d : Dec (n ≡ 0)) → varint_at l i ≡ got n j → choose d no_starts (behind_count w a n) l j ≡ got_starts w l (starts.Got s) →
+      go : (n j : ℕ) (d : Dec (n ≡ 0)) → varint_at l i ≡ got n j → choose d no_starts (behind_count w a n) l j ≡ got_starts w l (Ok s) →
           Lies w l s
       go n j (yes z) f g = lies-none j g
       go n j (no z) f g = lies-behind a n j (varint-in l i n j (sym f)).1 g

@@ -1,5 +1,9 @@
 -- How the search for a row goes on, past entries and past functions: the whole table is judged, and the place of the row is
 -- kept. Assumes nothing.
+use Rattle.std.specs.Prelude as std
+use Rattle.std.specs.Prelude.{Result, Ok, Err}
+use Rattle.reading.specs.Shown.{stop_of}
+use Rattle.entries.specs.declared.places.Place.{Place}
 use mathlib.Core.Path.{◌≡◌, refl, sym, ap, ◌∙◌}
 use Prim.Native.Nat.{ℕ, zero, suc, ◌+◌, ◌-◌, ◌≤◌, ◌<◌}
 use native.Mathlib.Decide.{dec_lt}
@@ -27,10 +31,7 @@ use Rattle.entries.specs.Starts.{starts_at, got_starts, Lies, number_or, end_at}
 use Rattle.entries.specs.Rows.{bytes_in, located_in}
 use Rattle.entries.specs.Places.{span_in, row_in, got_place, Finds, bodies_of, bodies_at, bodies_from, entries_in, table_at}
 use Rattle.entries.specs.declared.starts.Starts.{Starts}
-use Rattle.entries.specs.declared.starts.StartsRead.TheVariants as starts
 use Rattle.entries.specs.declared.rows.FuncRow.{FuncRow}
-use Rattle.entries.specs.declared.places.PlaceRead.{PlaceRead}
-use Rattle.entries.specs.declared.places.PlaceRead.TheVariants as place
 use Rattle.entries.proofs.LawsEntries.{offset-stop, offset-got, run_of, ahead, Before, run-first, entries_left, left-bad, left-good}
 
 -- No rows, and one row before others.
@@ -66,7 +67,7 @@ unfoldable pub later : Option Span → ℕ → ℕ → Got (Rows (List ℕ)) →
 later kept n i g = follow g (λ v j. got (choose (dec_lt n i) kept (span_in v (n - i))) j)
 
 -- The search stands before row i. The place of row n is kept once it is passed.
-pub record Seeking (l : List ℕ) (n i : ℕ) (rest all : ℕ → Got (Rows (List ℕ))) (found : PlaceRead) : Type 0 where
+pub record Seeking (l : List ℕ) (n i : ℕ) (rest all : ℕ → Got (Rows (List ℕ))) (found : Result (std.Option Place) Refused) : Type 0 where
   pub kept : ℕ → Option Span
   pub shown : (o : ℕ) → got_place o l found ≡ got (kept o) (length l)
   pub fresh : (o : ℕ) → i ≤ n → kept o ≡ none
@@ -74,7 +75,7 @@ pub record Seeking (l : List ℕ) (n i : ℕ) (rest all : ℕ → Got (Rows (Lis
 
 module _ (l : List ℕ) (n : ℕ) (all : ℕ → Got (Rows (List ℕ))) where
   -- It begins before the first row ..
-  pub seek-none : (rest : ℕ → Got (Rows (List ℕ))) → ((o : ℕ) → all o ≡ rest o) → Seeking l n 0 rest all place.Absent
+  pub seek-none : (rest : ℕ → Got (Rows (List ℕ))) → ((o : ℕ) → all o ≡ rest o) → Seeking l n 0 rest all (Ok std.None)
   unfolding row_in later follow
   seek-none rest e =
       record { kept = λ o. none; shown = λ o. refl; fresh = λ o h. refl; goes = λ o. first (all o) ∙ ap (later none n 0) (e o) }
@@ -86,9 +87,9 @@ module _ (l : List ℕ) (n : ℕ) (all : ℕ → Got (Rows (List ℕ))) where
           ap (λ s. got s j) (sym (choose_no (dec_lt n 0) none _ h ∙ ap (span_in v) e))
       first (stop c k) = refl
 
-  module _ (i : ℕ) (rest : ℕ → Got (Rows (List ℕ))) (found : PlaceRead) (s : Seeking l n i rest all found) where
+  module _ (i : ℕ) (rest : ℕ → Got (Rows (List ℕ))) (found : Result (std.Option Place) Refused) (s : Seeking l n i rest all found) where
     -- .. a row is refused, and so is the table ..
-    pub seek_stop : (x : Refused) → ((o : ℕ) → rest o ≡ stop x.no x.at) → Finds all l n (place.Stop x)
+    pub seek_stop : (x : Refused) → ((o : ℕ) → rest o ≡ stop_of x) → Finds all l n (Err x)
     unfolding later follow
     seek_stop x e = record { found = λ o. sym (s.goes o ∙ rw (e o)) }
 
@@ -107,7 +108,7 @@ module _ (l : List ℕ) (n : ℕ) (all : ℕ → Got (Rows (List ℕ))) where
     module _ (rest' : ℕ → Got (Rows (List ℕ))) (a : ℕ) (x : List ℕ)
         (e : (o : ℕ) → rest o ≡ follow (rest' o) (λ v j. got (before (o + a) x v) j)) where
       -- .. this is the row ..
-      pub seek-here : n ≡ i → (size : ℕ) → size ≡ length x → (found' : PlaceRead) → found' ≡ place.At a size →
+      pub seek-here : n ≡ i → (size : ℕ) → size ≡ length x → (found' : Result (std.Option Place) Refused) → found' ≡ Ok (std.Some record { start = a; len = size }) →
           Seeking l n (i + 1) rest' all found'
       unfolding later follow
       seek-here h size m found' t =
@@ -130,7 +131,7 @@ module _ (l : List ℕ) (n : ℕ) (all : ℕ → Got (Rows (List ℕ))) where
           here o (stop c k) = refl
 
       -- .. or another one.
-      pub seek-past : ¬ (n ≡ i) → (found' : PlaceRead) → found' ≡ found → Seeking l n (i + 1) rest' all found'
+      pub seek-past : ¬ (n ≡ i) → (found' : Result (std.Option Place) Refused) → found' ≡ found → Seeking l n (i + 1) rest' all found'
       unfolding later follow
       seek-past h found' t =
           record {
@@ -157,13 +158,13 @@ module _ (l : List ℕ) (n : ℕ) (all : ℕ → Got (Rows (List ℕ))) where
           past o (stop c k) = refl
 
 -- A table that is refused is the answer ..
-pub finds-stop : (l : List ℕ) (n : ℕ) (x : Refused) (g : ℕ → Got (Rows (List ℕ))) → ((o : ℕ) → g o ≡ stop x.no x.at) →
-    Finds g l n (place.Stop x)
+pub finds-stop : (l : List ℕ) (n : ℕ) (x : Refused) (g : ℕ → Got (Rows (List ℕ))) → ((o : ℕ) → g o ≡ stop_of x) →
+    Finds g l n (Err x)
 unfolding row_in follow
 finds-stop l n x g e = record { found = λ o. sym (ap (row_in n) (e o)) }
 
 -- .. and so is what is found in the same rows.
-pub finds-as : (l : List ℕ) (n : ℕ) (r : PlaceRead) (g h : ℕ → Got (Rows (List ℕ))) → ((o : ℕ) → g o ≡ h o) → Finds h l n r →
+pub finds-as : (l : List ℕ) (n : ℕ) (r : Result (std.Option Place) Refused) (g h : ℕ → Got (Rows (List ℕ))) → ((o : ℕ) → g o ≡ h o) → Finds h l n r →
     Finds g l n r
 finds-as l n r g h e f = record { found = λ o. f.found o ∙ ap (row_in n) (sym (e o)) }
 
@@ -200,7 +201,7 @@ module _ (w : ℕ) (l run : List ℕ) (b : ℕ) where
 -- The search begins before all entries that starts in the payload cut.
 pub seek-entries : (w size : ℕ) (l : List ℕ) (n : ℕ) (t : Starts) → 0 < w → Lies w l t → (s j k : ℕ) →
     got s j ≡ number_or w size (run_of l t) 0 → t.count ≡ k →
-    Before w size (run_of l t) k s j × Seeking l n 0 (rows_left w l (run_of l t) t.data k s j) (λ o. entries_in o w l t) place.Absent
+    Before w size (run_of l t) k s j × Seeking l n 0 (rows_left w l (run_of l t) t.data k s j) (λ o. entries_in o w l t) (Ok std.None)
 unfolding entries_in
 seek-entries w size l n t bytes lies s j k e h =
     let (b, a) = run-first w size l t bytes lies s j e in
@@ -211,7 +212,7 @@ module _ (w : ℕ) (l : List ℕ) where
   pub table-stop : (c k : ℕ) → starts_at w w l 0 ≡ stop c k → (o : ℕ) → table_at o w l ≡ stop c k
   table-stop c k e o = offset-stop whole w w o l 0 c k e
 
-  pub table_got : (t : Starts) → starts_at w w l 0 ≡ got_starts w l (starts.Got t) → (o : ℕ) → table_at o w l ≡ entries_in o w l t
+  pub table_got : (t : Starts) → starts_at w w l 0 ≡ got_starts w l (Ok t) → (o : ℕ) → table_at o w l ≡ entries_in o w l t
   unfolding entries_in
   table_got t e o = offset-got whole w w o l 0 _ _ _ e
 

@@ -1,4 +1,8 @@
 -- The steps of the readers of the rows of Global and Func, by the model. Assumes nothing.
+use Rattle.std.specs.Prelude.{Result}
+use Rattle.reading.specs.declared.Reader.{Reader}
+use Rattle.reading.specs.declared.Refused.{Refused}
+use Rattle.entries.specs.declared.rows.FuncRow.{FuncRow}
 use mathlib.Core.Path.{◌≡◌, refl, sym, ap, ◌∙◌}
 use Prim.Native.Nat.{ℕ, ◌+◌, ◌/◌, ◌%◌, ◌≤◌, ◌<◌}
 use native.Mathlib.Decide.{ℕ_discrete}
@@ -32,7 +36,6 @@ use Rattle.format.specs.DecodeTables.{field_at}
 use Rattle.format.specs.DecodeRows.{global_at, body_at, function_at}
 use Rattle.format.proofs.LawsRows.{global-exact, function-exact}
 use Rattle.entries.specs.Rows.{linkage_at, got_function, Gives}
-use Rattle.entries.specs.declared.rows.FuncRead.{FuncRead}
 
 -- Visibility and flag below 13.3 ..
 module _ (c : VersionClass) (l : List ℕ) (i : ℕ) where
@@ -214,5 +217,5 @@ function-in l i v j h e =
     (omega (arith, x.0), omega (arith, x.1, r.next), omega (arith, r.next, length-append r.bytes (drop j l), length-drop i l, length-drop j l))
 
 -- What an answer says of a function, wherever the payload stands.
-pub func-told : (l : List ℕ) (i : ℕ) {r x : FuncRead} → r ≡ x → Gives l function_at i r → (o : ℕ) → function_at o l i ≡ got_function o l x
+pub func-told : (l : List ℕ) (i : ℕ) {r x : Result (FuncRow × Reader) Refused} → r ≡ x → Gives l function_at i r → (o : ℕ) → function_at o l i ≡ got_function o l x
 func-told l i e h o = told (got_function o l) e (h o)

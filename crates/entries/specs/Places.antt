@@ -1,9 +1,10 @@
 -- Where a string, a constant or a body stands, over the model that reads its whole table (document 01, "Refusal numbers":
 -- the place the layout gives to the row of that number).
-use Rattle.std.specs.Prelude.{◌≡◌, ℕ, ◌+◌, List, map, length}
+use Rattle.std.specs.Prelude as std
+use Rattle.std.specs.Prelude.{◌≡◌, ℕ, ◌+◌, List, map, length, Result, Ok, Err}
 use Rattle.std.proofs.Math.Decide.{dec_lt}
 use Rattle.std.proofs.Math.Option.{Option, none, some}
-use Rattle.exact.specs.Got.{Got, got, stop, follow}
+use Rattle.exact.specs.Got.{Got, got, follow}
 use Rattle.exact.specs.Exact.{Parser}
 use Rattle.exact.specs.Sequence as sequence
 use Rattle.exact.specs.Choice.{choose}
@@ -17,9 +18,10 @@ use Rattle.format.specs.DecodeTables.{offset_table_at}
 use Rattle.format.specs.DecodeRows.{function_at, functions_at}
 use Rattle.format.specs.Views.{Span, span_of, body_of}
 use Rattle.entries.specs.Starts.{numbers_in}
+use Rattle.reading.specs.Shown.{stop_of}
+use Rattle.reading.specs.declared.Refused.{Refused}
 use Rattle.entries.specs.declared.starts.Starts.{Starts}
-use Rattle.entries.specs.declared.places.PlaceRead.{PlaceRead}
-use Rattle.entries.specs.declared.places.PlaceRead.TheVariants as place
+use Rattle.entries.specs.declared.places.Place.{Place}
 
 -- The place of row n, if it is there.
 unfoldable pub span_in : Rows (List ℕ) → ℕ → Option Span
@@ -30,13 +32,13 @@ unfoldable pub row_in : ℕ → Got (Rows (List ℕ)) → Got (Option Span)
 row_in n g = follow g (λ v j. got (span_in v n) j)
 
 -- An answer of the payload l; its places count from o bytes before it.
-abbrev pub got_place : ℕ → List ℕ → PlaceRead → Got (Option Span)
-got_place o l (place.At start size) = got (some (record { offset = o + start; size = size })) (length l)
-got_place o l place.Absent = got none (length l)
-got_place o l (place.Stop x) = stop x.no x.at
+abbrev pub got_place : ℕ → List ℕ → Result (std.Option Place) Refused → Got (Option Span)
+got_place o l (Ok (std.Some p)) = got (some (record { offset = o + p.start; size = p.len })) (length l)
+got_place o l (Ok std.None) = got none (length l)
+got_place o l (Err x) = stop_of x
 
 -- The answer is the place of row n of the table g, wherever the payload l stands.
-pub record Finds (g : ℕ → Got (Rows (List ℕ))) (l : List ℕ) (n : ℕ) (r : PlaceRead) : Type 0 where
+pub record Finds (g : ℕ → Got (Rows (List ℕ))) (l : List ℕ) (n : ℕ) (r : Result (std.Option Place) Refused) : Type 0 where
   pub found : (o : ℕ) → got_place o l r ≡ row_in n (g o)
 
 -- The bodies of functions, with their places.

@@ -1,6 +1,6 @@
 -- Offset tables as far as their starts, and the bounds of an entry (document 01, "The container": String, Type, Constant,
 -- Debug; "Refusal numbers": 6).
-use Rattle.std.specs.Prelude.{◌≡◌, ℕ, ◌+◌, ◌*◌, ◌≤◌, List, [], length, drop}
+use Rattle.std.specs.Prelude.{◌≡◌, ℕ, ◌+◌, ◌*◌, ◌≤◌, List, [], length, drop, Result, Ok, Err}
 use Rattle.std.proofs.Math.Decide.{dec_le, ℕ_discrete}
 use Rattle.exact.specs.Got.{Got, got, stop, follow}
 use Rattle.exact.specs.Exact.{Parser}
@@ -12,13 +12,11 @@ use Rattle.enums.specs.Refusals as refusals
 use Rattle.reading.specs.Numbers.{varint_at, padding_at, placed}
 use Rattle.entries.specs.declared.starts.Width.{Width}
 use Rattle.entries.specs.declared.starts.Width.TheVariants as width
+use Rattle.reading.specs.Shown.{stop_of}
+use Rattle.reading.specs.declared.Refused.{Refused}
 use Rattle.entries.specs.declared.starts.Starts.{Starts}
-use Rattle.entries.specs.declared.starts.StartsRead.{StartsRead}
-use Rattle.entries.specs.declared.starts.StartsRead.TheVariants as starts
-use Rattle.entries.specs.declared.starts.EntryRead.{EntryRead}
-use Rattle.entries.specs.declared.starts.EntryRead.TheVariants as entry
-use Rattle.entries.specs.declared.starts.ListRead.{ListRead}
-use Rattle.entries.specs.declared.starts.ListRead.TheVariants as list
+use Rattle.entries.specs.declared.starts.EntryCursor.{EntryCursor}
+use Rattle.entries.specs.declared.starts.ListCursor.{ListCursor}
 
 -- How many bytes a number has.
 abbrev pub wide : Width → ℕ
@@ -46,9 +44,9 @@ abbrev pub numbers_in : ℕ → List ℕ → Starts → List ℕ
 numbers_in w l s = nums s.count w (drop s.first l)
 
 -- The place of the first start, and the starts.
-abbrev pub got_starts : ℕ → List ℕ → StartsRead → Got (ℕ × List ℕ)
-got_starts w l (starts.Got s) = got (s.first, numbers_in w l s) s.data
-got_starts w l (starts.Stop x) = stop x.no x.at
+abbrev pub got_starts : ℕ → List ℕ → Result Starts Refused → Got (ℕ × List ℕ)
+got_starts w l (Ok s) = got (s.first, numbers_in w l s) s.data
+got_starts w l (Err x) = stop_of x
 
 -- Starts of w bytes that are all in the payload l, with the data right behind them.
 pub record Lies (w : ℕ) (l : List ℕ) (s : Starts) : Type 0 where
@@ -73,10 +71,10 @@ bounded m n s e j = choose (dec_le (s + m) e) (choose (dec_le e n) (got e j) (st
 unfoldable pub end_at : ℕ → ℕ → ℕ → ℕ → Parser ℕ
 end_at w m n s l i = follow (number_or w n l i) (bounded m n s)
 
-abbrev pub got_entry : EntryRead → Got ℕ
-got_entry (entry.Got c) = got c.start.0 c.next
-got_entry (entry.Stop x) = stop x.no x.at
+abbrev pub got_entry : Result EntryCursor Refused → Got ℕ
+got_entry (Ok c) = got c.start.0 c.next
+got_entry (Err x) = stop_of x
 
-abbrev pub got_list : ListRead → Got ℕ
-got_list (list.Got c) = got c.start.0 c.next
-got_list (list.Stop x) = stop x.no x.at
+abbrev pub got_list : Result ListCursor Refused → Got ℕ
+got_list (Ok c) = got c.start.0 c.next
+got_list (Err x) = stop_of x

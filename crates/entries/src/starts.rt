@@ -6,11 +6,11 @@ ghost use Rattle.exact.specs.Repeat.{times};
 ghost use Rattle.exact.specs.Fixed.{fixed};
 ghost use Rattle.enums.specs.Refusals as refusals;
 ghost use Rattle.reading.specs.Numbers.{placed};
-ghost use Rattle.reading.specs.Shown.{got_num};
+ghost use Rattle.reading.specs.Shown.{got_of};
 ghost use Rattle.entries.specs.Starts.{wide, got_starts, behind_count, starts_at, array_at, number_or, end_at, got_entry, got_list};
 
 use enums::{BytePosition, IdPosition, Refusal};
-use reading::{NumRead, PaddingRead, Reader, Refused, U32Read};
+use reading::{Read, Reader, Refused};
 
 // How many bytes a start or an id has. Starts stand behind padding to as many.
 #[derive(Clone, Copy)]
@@ -27,12 +27,6 @@ pub struct Starts {
     pub data: usize,
 }
 
-#[derive(Clone, Copy)]
-pub enum StartsRead {
-    Got(Starts),
-    Stop(Refused),
-}
-
 // A number among the starts, and the place behind it.
 #[derive(Clone, Copy)]
 pub struct Number {
@@ -47,23 +41,11 @@ pub struct EntryCursor {
     pub next: usize,
 }
 
-#[derive(Clone, Copy)]
-pub enum EntryRead {
-    Got(EntryCursor),
-    Stop(Refused),
-}
-
 // The same of a list of the Debug section, which begins among the ids.
 #[derive(Clone, Copy)]
 pub struct ListCursor {
     pub start: IdPosition,
     pub next: usize,
-}
-
-#[derive(Clone, Copy)]
-pub enum ListRead {
-    Got(ListCursor),
-    Stop(Refused),
 }
 
 impl Width {
@@ -78,89 +60,89 @@ impl Width {
 }
 
 // A number of four bytes or of eight.
-fn read_number(payload: &[u8], reader: Reader, width: Width) -> NumRead
-    ensures { got_num result ≡ fixed (wide width) payload.now reader.pos }
+fn read_number(payload: &[u8], reader: Reader, width: Width) -> Read<u64>
+    ensures { got_of result ≡ fixed (wide width) payload.now reader.pos }
 {
     match width {
         Width::Eight => reader.read_le_u64(payload),
-        Width::Four => match reader.read_le_u32(payload) {
-            U32Read::Stop(x) => NumRead::Stop(x),
-            U32Read::Got(number, next) => NumRead::Got(number as u64, next),
-        },
+        Width::Four => {
+            let (number, next) = reader.read_le_u32(payload)?;
+            Ok((u64::from(number), next))
+        }
     }
 }
 
 // All starts have to be there. What is left is divided by the width, so that a count near 2^64 is refused like any other,
 // at the first start that does not fit.
-fn place_starts(payload: &[u8], table: Reader, count: u64, width: Width) -> StartsRead
+#[tactic(auto, unfolding(reading::specs::Numbers::placed, exact::specs::Padding::here, exact::specs::Got::follow, exact::specs::Basic::pure, exact::specs::Sequence::bind, exact::specs::Sequence::mapped))]
+fn place_starts(payload: &[u8], table: Reader, count: u64, width: Width) -> Result<Starts, Refused>
     ensures { got_starts (wide width) payload.now result ≡ placed (times count (fixed (wide width))) payload.now table.pos }
 {
     let first = table.pos;
     let bytes = width.bytes();
     let room = table.remaining(payload) / bytes;
     if (room as u64) < count {
-        let broken = first + room * bytes;
-        return StartsRead::Stop(Refused {
-            no: Refusal::SHORT,
-            at: broken,
+        return Err(Refused {
+            refusal: Refusal::Short,
+            at: first + room * bytes,
         });
     }
     let count = count as usize;
     let data = first + count * bytes;
-    StartsRead::Got(Starts { count, first, data })
+    Ok(Starts { count, first, data })
 }
 
 // The starts behind a count: padding stands before them.
-fn starts_behind(payload: &[u8], reader: Reader, count: u64, width: Width) -> StartsRead
+#[tactic(auto, unfolding(crate::specs::Starts::behind_count, exact::specs::Got::follow, exact::specs::Basic::pure, exact::specs::Sequence::bind, exact::specs::Sequence::mapped))]
+fn starts_behind(
+    payload: &[u8],
+    reader: Reader,
+    count: u64,
+    width: Width,
+) -> Result<Starts, Refused>
     ensures { got_starts (wide width) payload.now result ≡ behind_count (wide width) (wide width) count payload.now reader.pos }
 {
-    match reader.skip_padding(payload, width.bytes() as u64) {
-        PaddingRead::Stop(x) => StartsRead::Stop(x),
-        PaddingRead::Got(table) => place_starts(payload, table, count, width),
-    }
+    let table = reader.skip_padding(payload, width.bytes() as u64)?;
+    place_starts(payload, table, count, width)
 }
 
 // The starts of a table. A count of 0 ends it: it has no starts, and no data.
-pub fn parse_starts(payload: &[u8], width: Width) -> StartsRead
+#[tactic(auto, unfolding(crate::specs::Starts::starts_at, crate::specs::Starts::no_starts, exact::specs::Choice::choose, exact::specs::Got::follow, exact::specs::Basic::pure, exact::specs::Sequence::bind, exact::specs::Sequence::mapped))]
+pub fn parse_starts(payload: &[u8], width: Width) -> Result<Starts, Refused>
     ensures { got_starts (wide width) payload.now result ≡ starts_at (wide width) (wide width) payload.now 0 }
 {
-    let reader = Reader { pos: 0 };
-    match reader.read_varint(payload) {
-        NumRead::Stop(x) => StartsRead::Stop(x),
-        NumRead::Got(count, next) => {
-            if count == 0 {
-                let end = payload.len();
-                return StartsRead::Got(Starts {
-                    count: 0,
-                    first: end,
-                    data: end,
-                });
-            }
-            starts_behind(payload, next, count, width)
-        }
+    let (count, next) = (Reader { pos: 0 }).read_varint(payload)?;
+    if count == 0 {
+        let end = payload.len();
+        return Ok(Starts {
+            count: 0,
+            first: end,
+            data: end,
+        });
     }
+    starts_behind(payload, next, count, width)
 }
 
 // An array of the Debug section. Behind a count of 0 there is still padding.
-pub fn parse_array(payload: &[u8], reader: Reader, width: Width) -> StartsRead
+#[tactic(auto, unfolding(crate::specs::Starts::array_at, exact::specs::Got::follow, exact::specs::Basic::pure, exact::specs::Sequence::bind, exact::specs::Sequence::mapped))]
+pub fn parse_array(payload: &[u8], reader: Reader, width: Width) -> Result<Starts, Refused>
     ensures { got_starts (wide width) payload.now result ≡ array_at (wide width) (wide width) payload.now reader.pos }
 {
-    match reader.read_varint(payload) {
-        NumRead::Stop(x) => StartsRead::Stop(x),
-        NumRead::Got(count, next) => starts_behind(payload, next, count, width),
-    }
+    let (count, next) = reader.read_varint(payload)?;
+    starts_behind(payload, next, count, width)
 }
 
 // The number at a place, or `other` where none is left.
+#[tactic(auto, unfolding(crate::specs::Starts::number_or, crate::specs::Starts::or_else))]
 pub fn number_or(starts: &[u8], at: usize, width: Width, other: u64) -> Number
     ensures { got result.value result.next ≡ number_or (wide width) other starts.now at }
 {
     match read_number(starts, Reader { pos: at }, width) {
-        NumRead::Stop(_) => Number {
+        Err(_) => Number {
             value: other,
             next: at,
         },
-        NumRead::Got(value, next) => Number {
+        Ok((value, next)) => Number {
             value,
             next: next.pos,
         },
@@ -168,11 +150,11 @@ pub fn number_or(starts: &[u8], at: usize, width: Width, other: u64) -> Number
 }
 
 // Bad bounds are refused at the payload's first byte.
-fn out_of_bounds() -> NumRead
-    ensures { got_num result ≡ stop refusals.bounds 0 }
+fn out_of_bounds() -> Read<u64>
+    ensures { got_of result ≡ stop refusals.bounds 0 }
 {
-    NumRead::Stop(Refused {
-        no: Refusal::BOUNDS,
+    Err(Refused {
+        refusal: Refusal::Bounds,
         at: 0,
     })
 }
@@ -180,8 +162,9 @@ fn out_of_bounds() -> NumRead
 // Where the entry ends that begins at `start`: at the next start, and the last one where the data ends. It has to lie
 // in the data, and to have `least` bytes, or ids, at least. The tests stand so that the compiler, which sees a `least`
 // of 0 or 1, leaves one comparison of start and end.
-fn end_of(starts: &[u8], width: Width, size: u64, least: u64, start: u64, next: usize) -> NumRead
-    ensures { got_num result ≡ end_at (wide width) least size start starts.now next }
+#[tactic(auto, unfolding(crate::specs::Starts::end_at, crate::specs::Starts::bounded, exact::specs::Choice::choose, exact::specs::Got::follow, exact::specs::Basic::pure, exact::specs::Sequence::bind, exact::specs::Sequence::mapped))]
+fn end_of(starts: &[u8], width: Width, size: u64, least: u64, start: u64, next: usize) -> Read<u64>
+    ensures { got_of result ≡ end_at (wide width) least size start starts.now next }
 {
     let end = number_or(starts, next, width, size);
     if size < end.value {
@@ -194,7 +177,7 @@ fn end_of(starts: &[u8], width: Width, size: u64, least: u64, start: u64, next: 
     } else if end.value - start < least {
         return out_of_bounds();
     }
-    NumRead::Got(end.value, Reader { pos: end.next })
+    Ok((end.value, Reader { pos: end.next }))
 }
 
 // Where the first entry begins; without starts, where the data ends.
@@ -215,23 +198,21 @@ pub fn next_entry(
     size: usize,
     least: u64,
     from: EntryCursor,
-) -> EntryRead
+) -> Result<EntryCursor, Refused>
     ensures { got_entry result ≡ end_at (wide width) least size from.start.0 starts.now from.next }
 {
-    match end_of(
+    let (end, next) = end_of(
         starts,
         width,
         size as u64,
         least,
         from.start.0 as u64,
         from.next,
-    ) {
-        NumRead::Stop(x) => EntryRead::Stop(x),
-        NumRead::Got(end, next) => EntryRead::Got(EntryCursor {
-            start: BytePosition(end as usize),
-            next: next.pos,
-        }),
-    }
+    )?;
+    Ok(EntryCursor {
+        start: BytePosition(end as usize),
+        next: next.pos,
+    })
 }
 
 // Where the first list begins among the ids; without lists, where the ids end.
@@ -246,21 +227,19 @@ pub fn first_list(starts: &[u8], ids: usize) -> ListCursor
 }
 
 // The list at a cursor is judged: it may be empty.
-pub fn next_list(starts: &[u8], ids: usize, from: ListCursor) -> ListRead
+pub fn next_list(starts: &[u8], ids: usize, from: ListCursor) -> Result<ListCursor, Refused>
     ensures { got_list result ≡ end_at 4 0 ids from.start.0 starts.now from.next }
 {
-    match end_of(
+    let (end, next) = end_of(
         starts,
         Width::Four,
         ids as u64,
         0,
         from.start.0 as u64,
         from.next,
-    ) {
-        NumRead::Stop(x) => ListRead::Stop(x),
-        NumRead::Got(end, next) => ListRead::Got(ListCursor {
-            start: IdPosition(end as usize),
-            next: next.pos,
-        }),
-    }
+    )?;
+    Ok(ListCursor {
+        start: IdPosition(end as usize),
+        next: next.pos,
+    })
 }

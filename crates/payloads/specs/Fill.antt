@@ -1,20 +1,20 @@
 -- What a payload reader answers and leaves in the two stores, over what the model reads there.
-use Rattle.std.specs.Prelude.{◌≡◌, ℕ, ◌+◌, ◌*◌, ◌^◌, ◌≤◌, List, length}
+use Rattle.std.specs.Prelude.{◌≡◌, ℕ, ◌+◌, ◌*◌, ◌^◌, ◌≤◌, List, length, Result, Ok, Err}
 use Rattle.exact.specs.Got.{Got, got, stop}
 use Rattle.exact.specs.Tiling.{join}
 use Rattle.sheet.specs.Store.{put_words, put_runs}
+use Rattle.enums.specs.Numbered.{number_of}
+use Rattle.reading.specs.declared.Refused.{Refused}
 use Rattle.payloads.specs.declared.answers.Filled.{Filled}
-use Rattle.payloads.specs.declared.answers.TableRead.{TableRead}
-use Rattle.payloads.specs.declared.answers.TableRead.TheVariants as table
 
 -- What was counted and how far the stores are filled; or a refusal and its place.
 pub data Count : Type 0 where
   counted : (rows words bytes : ℕ) → Count
   refused : (number at : ℕ) → Count
 
-abbrev pub count_of : TableRead → Count
-count_of (table.Got n f) = counted n f.words f.bytes
-count_of (table.Stop r) = refused r.no r.at
+abbrev pub count_of : Result (ℕ × Filled) Refused → Count
+count_of (Ok (n, f)) = counted n f.words f.bytes
+count_of (Err x) = refused (number_of x.refusal) x.at
 
 -- Rows with these words and these runs of bytes.
 pub record Rows : Type 0 where
@@ -29,7 +29,7 @@ behind at (stop c k) = refused c k
 
 -- The reader's answer r to what the model reads, g; and the stores, where it reads something. (Where it reads nothing the
 -- stores of the call are empty, so that nothing can have been written.)
-pub record Fills (at : Filled) (g : Got Rows) (sheet sheet' pool pool' : List ℕ) (r : TableRead) : Type 0 where
+pub record Fills (at : Filled) (g : Got Rows) (sheet sheet' pool pool' : List ℕ) (r : Result (ℕ × Filled) Refused) : Type 0 where
   pub answer : count_of r ≡ behind at g
   pub words : (v : Rows) (j : ℕ) → g ≡ got v j → sheet' ≡ put_words sheet at.words v.words
   pub runs : (v : Rows) (j : ℕ) → g ≡ got v j → pool' ≡ put_runs pool at.bytes v.runs

@@ -1,6 +1,6 @@
 -- What the readers of type entries answer and leave in the sheet (document 01, "The sheet": type, the number of words
 -- that follow, tag, fields in wire order with counts before lists).
-use Rattle.std.specs.Prelude.{◌≡◌, ℕ, ◌+◌, ◌*◌, ◌^◌, ◌≤◌, ◌<◌, true, List, [], map, length, drop}
+use Rattle.std.specs.Prelude.{◌≡◌, ℕ, ◌+◌, ◌*◌, ◌^◌, ◌≤◌, ◌<◌, true, List, [], map, length, drop, Result, Ok, Err}
 use Rattle.std.proofs.Math.Bool.{Bool-discrete}
 use Rattle.exact.specs.Got.{Got, got, stop, follow}
 use Rattle.exact.specs.Exact.{Parser}
@@ -17,17 +17,17 @@ use Rattle.sheet.specs.Store.{put_words}
 use Rattle.entries.specs.Starts.{numbers_in}
 use Rattle.entries.specs.declared.starts.Starts.{Starts}
 use Rattle.payloads.specs.Fill.{Rows}
+use Rattle.reading.specs.Shown.{stop_of}
+use Rattle.reading.specs.declared.Refused.{Refused}
 use Rattle.payloads.specs.declared.fields.Spot.{Spot}
-use Rattle.payloads.specs.declared.fields.SpotRead.{SpotRead}
-use Rattle.payloads.specs.declared.fields.SpotRead.TheVariants as spot
 
 -- The next word and the next byte, or a refusal.
-unfoldable pub place_of : SpotRead → Got ℕ
-place_of (spot.Got t) = got t.word t.pos
-place_of (spot.Stop x) = stop x.no x.at
+unfoldable pub place_of : Result Spot Refused → Got ℕ
+place_of (Ok t) = got t.word t.pos
+place_of (Err x) = stop_of x
 
 -- The words ws that were read are put from word w on, and the answer r says where both end; a refusal is handed out.
-unfoldable pub Row : Got (List ℕ) → ℕ → List ℕ → List ℕ → SpotRead → Type 0
+unfoldable pub Row : Got (List ℕ) → ℕ → List ℕ → List ℕ → Result Spot Refused → Type 0
 Row (got ws j) w sheet sheet' r = (place_of r ≡ got (w + length ws) j) × (sheet' ≡ put_words sheet w ws)
 Row (stop c k) w sheet sheet' r = place_of r ≡ stop c k
 
@@ -36,9 +36,9 @@ unfoldable pub Spare : List ℕ → Spot → Type 0
 Spare l t = (t.pos ≤ length l) × (t.word + 3 * length l + 8 < 2 ^ 63)
 
 -- A row has at most eight words for each byte of its entry; a refusal names a place of the entry or its end.
-unfoldable pub Short : List ℕ → ℕ → SpotRead → Type 0
-Short l w (spot.Got t) = (t.pos ≤ length l) × (t.word ≤ w + 8 * length l)
-Short l w (spot.Stop x) = x.at ≤ length l
+unfoldable pub Short : List ℕ → ℕ → Result Spot Refused → Type 0
+Short l w (Ok t) = (t.pos ≤ length l) × (t.word ≤ w + 8 * length l)
+Short l w (Err x) = x.at ≤ length l
 
 -- A partition view, by the version class.
 abbrev pub partition_at : VersionClass → Parser TypeRow

@@ -8,9 +8,5 @@ pub struct Filled {
     pub bytes: usize,
 }
 
-// A table that was read: how many rows it has, and how far the stores are filled with them.
-#[derive(Clone, Copy)]
-pub enum TableRead {
-    Got(usize, Filled),
-    Stop(Refused),
-}
+// What the reader of a table answers: how many rows it has, and how far the stores are filled with them.
+pub type TableRead = Result<(usize, Filled), Refused>;

@@ -7,18 +7,23 @@ use native.Mathlib.Omega.{arith}
 use native.Mathlib.Decide.{dec_lt}
 use mathlib.Core.List.{List}
 use lib.ListN.{length, take, drop}
+use mir.Syntax.{Width}
+use Rattle.std.specs.Int.{from_le_bytes, byte_len}
+use lib.Seq.{length-take-le}
+use lib.ListN.{length-drop}
 use Rattle.exact.specs.Got.{Got, got, stop, ended, follow}
 use Rattle.exact.specs.Exact.{Parser}
 use Rattle.exact.specs.Basic.{pure}
 use Rattle.exact.specs.Sequence.{bind, mapped}
 use Rattle.exact.specs.Repeat.{times, counted}
-use Rattle.exact.specs.Fixed.{raw, little, fixed, nums}
+use Rattle.exact.specs.Fixed.{raw, fixed, nums}
 use Rattle.exact.specs.Padding.{here}
 use Rattle.exact.proofs.LawsExact.{stop-not-got, got-value, got-next}
 use Rattle.exact.proofs.LawsSequence.{follow-inv, bind-got, bind-stop}
-use Rattle.exact.proofs.LawsSteps.{raw_at, raw-end, fixed-at, times-at, times-end}
+use Rattle.exact.proofs.LawsSteps.{raw_at, raw-end, times-at, times-end}
 use Rattle.exact.proofs.LawsFixed.{length-nums}
-use Rattle.reading.specs.Numbers.{varint_at, placed, items_at, counted_at, Word}
+use Rattle.reading.specs.Numbers.{varint_at, placed, items_at, counted_at}
+use Rattle.reading.proofs.LawsWord.{from_le-little}
 use Rattle.reading.proofs.LawsNumbers.{varint-in}
 
 module _ {A : Type 0} (p : Parser A) (l : List ℕ) (i : ℕ) where
@@ -76,18 +81,19 @@ module _ (n : ℕ) (s : List ℕ) (i : ℕ) where
       let (h, j) = raw-got bs next f in
       (a, j, h)
 
-  -- The number of a run that was answered ..
-  pub run-word : (start : ℕ) (bs : List ℕ) (next v : ℕ) → placed (raw n) s i ≡ got (start, bs) next → Word n s start v →
-      got v next ≡ fixed n s i
-  run-word start bs next v e w =
-      let (a, j, h) = run-got start bs next e in
-      let x : v ≡ little (take n (drop i s)) = w.value ∙ ap (λ k. little (take n (drop k s))) a in
-      rw (x, j) (sym (fixed-at n s i h))
+  -- Bytes that were read are as many as were asked for.
+  pub length-raw : (bs : List ℕ) (j : ℕ) → raw n s i ≡ got bs j → length bs ≡ n
+  length-raw bs j e =
+      let (h, k) = raw-got bs j e in
+      let b = got-value (sym e ∙ raw_at n s i h) in
+      ap length b ∙ length-take-le n (drop i s) (omega (arith, length-drop i s))
 
-  -- .. and one that was refused.
-  pub run-stop : (c k : ℕ) → placed (raw n) s i ≡ stop c k → stop c k ≡ fixed n s i
-  unfolding fixed mapped bind follow
-  run-stop c k e = rw (placed-stop (raw n) s i c k e)
+-- The number of bytes that were read, by the library.
+pub array_number : (w : Width) (s : List ℕ) (i : ℕ) {bs : List ℕ} {j v : ℕ} → 0 < byte_len w → raw (byte_len w) s i ≡ got bs j →
+    v ≡ from_le_bytes w bs → got v j ≡ fixed (byte_len w) s i
+unfolding fixed mapped bind follow pure
+array_number w s i {bs} {j} {v} some e h =
+    rw e (ap (λ n. got n j) (h ∙ from_le-little w bs some (length-raw (byte_len w) s i bs j e)))
 
 module _ (w : ℕ) (s : List ℕ) (i : ℕ) where
   -- The count was refused.

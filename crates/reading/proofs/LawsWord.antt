@@ -1,12 +1,15 @@
 -- Little-endian numbers at a place, once over the width: one byte, and two numbers side by side. Assumes nothing.
-use mathlib.Core.Path.{◌≡◌, sym, ◌∙◌}
-use Prim.Native.Nat.{ℕ, zero, suc, ◌+◌, ◌*◌, ◌^◌, ◌≤◌, ◌<◌}
+use mathlib.Core.Path.{◌≡◌, sym, ap, ◌∙◌}
+use Prim.Native.Nat.{ℕ, zero, suc, ◌+◌, ◌-◌, ◌*◌, ◌^◌, ◌≤◌, ◌<◌}
 use native.Mathlib.Nat.{pow-suc, mul-le-mul_left, mul_assoc, mul-one, pow-zero, add-zero, add-suc}
 use native.Mathlib.Omega.{arith}
 use native.Mathlib.Decide.{dec_lt}
 use mathlib.Core.List.{List, [], ◌∷◌, ◌++◌}
 use lib.ListN.{length, take, drop, get_or, length-drop}
-use lib.Seq.{take-add, drop-drop, drop-cons, length-take-le}
+use lib.Seq.{take-length, take-add, drop-drop, drop-cons, length-take-le}
+use mir.Syntax.{Width}
+use Rattle.std.specs.Prelude.{slice_index}
+use Rattle.std.specs.Int.{from_le_bytes, byte_worth, byte_len, sum_through}
 use Rattle.exact.specs.Basic.{byte}
 use Rattle.exact.specs.Fixed.{little, fixed}
 use Rattle.exact.proofs.LawsSteps.{byte_at, byte-end, fixed-at, fixed-end}
@@ -25,6 +28,9 @@ byte_word l i h = rw (drop-cons l i 0) (omega arith)
 
 pub word_byte : (l : List ℕ) (i b : ℕ) → i < length l → Word 1 l i b → b ≡ get_or l i 0
 word_byte l i b h w = w.value ∙ byte_word l i h
+
+pub word-of : (l : List ℕ) (i : ℕ) {b : ℕ} → i < length l → b ≡ get_or l i 0 → b < 256 → Word 1 l i b
+word-of l i h e f = record { value = e ∙ sym (byte_word l i h); fits = f }
 
 pow-add : (n a b : ℕ) → n ^ (a + b) ≡ n ^ a * n ^ b
 pow-add n a zero = rw (add-zero, pow-zero, mul-one)
@@ -48,3 +54,19 @@ word-join a b l i x y h u v =
       value = rw (take-add, little-append, n, drop-drop, ← u.value, ← v.value);
       fits = rw pow-add (omega (arith, u.fits));
     }
+
+-- The library's number of little-endian bytes is that of the list: of its first k + 1 bytes ..
+through : (bs : List ℕ) (k : ℕ) → k < length bs →
+    sum_through (λ i. byte_worth i (slice_index bs i)) k ≡ little (take (suc k) bs)
+through bs zero h = sym (byte_word bs 0 h)
+through bs (suc k) h =
+    let n : length (take (suc k) bs) ≡ suc k = length-take-le (suc k) bs (omega arith) in
+    let m : suc k + 1 ≡ suc (suc k) = omega arith in
+    let e : take (suc (suc k)) bs ≡ take (suc k) bs ++ take 1 (drop (suc k) bs) = sym (ap (λ j. take j bs) m) ∙ take-add (suc k) 1 bs in
+    rw (e, little-append, n, byte_word bs (suc k) h, through bs k (omega arith)) (omega arith)
+
+-- .. and of all of them.
+pub from_le-little : (w : Width) (bs : List ℕ) → 0 < byte_len w → length bs ≡ byte_len w → from_le_bytes w bs ≡ little bs
+from_le-little w bs some e =
+    let m : suc (byte_len w - 1) ≡ length bs = omega arith in
+    through bs (byte_len w - 1) (omega arith) ∙ ap (λ k. little (take k bs)) m ∙ ap little (take-length bs)

@@ -35,42 +35,6 @@ pub struct Items {
     pub start: usize,
 }
 
-// The byte at a place.
-fn byte_at(data: &[u8], at: usize) -> u64
-    requires { at < length «data».now }
-    ensures { Word 1 «data».now at result }
-{
-    data[at] as u64
-}
-
-// The little-endian number of two bytes at a place; of four and eight, by halves.
-fn u16_at(data: &[u8], at: usize) -> u64
-    requires { at + 2 ≤ length «data».now }
-    ensures { Word 2 «data».now at result }
-{
-    let low = byte_at(data, at);
-    let high = byte_at(data, at + 1);
-    low + 256 * high
-}
-
-fn u32_at(data: &[u8], at: usize) -> u64
-    requires { at + 4 ≤ length «data».now }
-    ensures { Word 4 «data».now at result }
-{
-    let low = u16_at(data, at);
-    let high = u16_at(data, at + 2);
-    low + 65536 * high
-}
-
-fn u64_at(data: &[u8], at: usize) -> u64
-    requires { at + 8 ≤ length «data».now }
-    ensures { Word 8 «data».now at result }
-{
-    let low = u32_at(data, at);
-    let high = u32_at(data, at + 4);
-    low + 4294967296 * high
-}
-
 // The signed number that stands zigzagged in a varint: 0, 1, 2, 3, .. are 0, -1, 1, -2, ..
 fn unzigzag(v: u64) -> i64
     ensures { result ≡ Signed.unzigzag v }
@@ -138,7 +102,7 @@ impl Reader {
                 at,
             });
         }
-        let first = byte_at(data, at);
+        let first = u64::from(data[at]);
         if first < 128 {
             return Ok((first, Reader { pos: at + 1 }));
         }
@@ -149,11 +113,7 @@ impl Reader {
     fn at_most(self, data: &[u8], n: usize) -> usize
         ensures { result ≡ self.pos + min n (remaining_at «data».now self.pos) }
     {
-        let left = self.remaining(data);
-        if left < n {
-            return self.pos + left;
-        }
-        self.pos + n
+        self.pos + n.min(self.remaining(data))
     }
 
     // A number of more than one byte: each of the first nine counts seven bits, `weight` what the next of them counts, and
@@ -164,32 +124,30 @@ impl Reader {
     {
         let at = self.pos;
         let ninth = self.at_most(data, 9);
-        let mut i = at + 1;
         let mut result = first % 128;
         let mut weight: u64 = 128;
-        while i < ninth {
-            let b = byte_at(data, i);
+        for i in at + 1..ninth {
+            let b = u64::from(data[i]);
             if b < 128 {
                 return Ok((result + weight * b, Reader { pos: i + 1 }));
             }
             result += weight * (b % 128);
             weight *= 128;
-            i += 1;
         }
-        if data.len() <= i {
+        if data.len() <= ninth {
             return Err(Refused {
                 refusal: Refusal::Short,
                 at,
             });
         }
-        let b = byte_at(data, i);
+        let b = u64::from(data[ninth]);
         if 128 <= b {
             return Err(Refused {
                 refusal: Refusal::Overlong,
                 at,
             });
         }
-        Ok((result + weight * (b % 2), Reader { pos: i + 1 }))
+        Ok((result + weight * (b % 2), Reader { pos: ninth + 1 }))
     }
 
     pub fn read_signed_varint(self, data: &[u8]) -> Read<i64>
@@ -197,6 +155,17 @@ impl Reader {
     {
         let (v, next) = self.read_varint(data)?;
         Ok((unzigzag(v), next))
+    }
+
+    // The next N bytes.
+    fn read_array<const N: usize>(self, data: &[u8]) -> Read<[u8; N]>
+        requires { 0 < N }
+        ensures { got_of result ≡ raw N «data».now self.pos }
+    {
+        let (start, next) = self.read_bytes(data, N)?;
+        let mut bytes = [0; N];
+        bytes.copy_from_slice(&data[start..next.pos]);
+        Ok((bytes, next))
     }
 
     pub fn read_le_u8(self, data: &[u8]) -> Read<u8>
@@ -208,22 +177,22 @@ impl Reader {
     pub fn read_le_u16(self, data: &[u8]) -> Read<u16>
         ensures { got_of result ≡ fixed 2 «data».now self.pos }
     {
-        let (start, next) = self.read_bytes(data, 2)?;
-        Ok((u16_at(data, start) as u16, next))
+        let (bytes, next) = self.read_array(data)?;
+        Ok((u16::from_le_bytes(bytes), next))
     }
 
     pub fn read_le_u32(self, data: &[u8]) -> Read<u32>
         ensures { got_of result ≡ fixed 4 «data».now self.pos }
     {
-        let (start, next) = self.read_bytes(data, 4)?;
-        Ok((u32_at(data, start) as u32, next))
+        let (bytes, next) = self.read_array(data)?;
+        Ok((u32::from_le_bytes(bytes), next))
     }
 
     pub fn read_le_u64(self, data: &[u8]) -> Read<u64>
         ensures { got_of result ≡ fixed 8 «data».now self.pos }
     {
-        let (start, next) = self.read_bytes(data, 8)?;
-        Ok((u64_at(data, start), next))
+        let (bytes, next) = self.read_array(data)?;
+        Ok((u64::from_le_bytes(bytes), next))
     }
 
     pub fn read_le_i64(self, data: &[u8]) -> Read<i64>
@@ -248,25 +217,23 @@ impl Reader {
             return Ok(self);
         }
         let at = self.pos;
-        let mut i = at;
-        let mut padding = (alignment - at as u64 % alignment) % alignment;
-        while 0 < padding {
-            if data.len() <= i {
-                return Err(Refused {
-                    refusal: Refusal::Short,
-                    at,
-                });
-            }
+        let padding = (alignment - at as u64 % alignment) % alignment;
+        let end = self.at_most(data, padding as usize);
+        for i in at..end {
             if data[i] != ALIGNMENT_BYTE {
                 return Err(Refused {
                     refusal: Refusal::Padding,
                     at,
                 });
             }
-            i += 1;
-            padding -= 1;
         }
-        Ok(Reader { pos: i })
+        if ((end - at) as u64) < padding {
+            return Err(Refused {
+                refusal: Refusal::Short,
+                at,
+            });
+        }
+        Ok(Reader { pos: end })
     }
 
     // The numbers of a counted array stay where they are: the answer says how many, and where. What is left is divided by

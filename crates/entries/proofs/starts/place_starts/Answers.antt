@@ -6,12 +6,12 @@ use Rattle.entries.proofs.starts.place_starts.Goals as goal
 pub nonzero_div-room : goal.nonzero_div-room
 nonzero_div-room c = omega (arith, c.bytes-bytes.ensures, wide-some c.args.width)
 
-pub overflow_mul-broken : goal.overflow_mul-broken
-overflow_mul-broken c =
+pub overflow_mul-result : goal.overflow_mul-result
+overflow_mul-result c =
     omega (arith, starts-room c.bytes-bytes.result c.args.payload.now c.args.table.pos c.args.count _ c.remaining.ensures)
 
-pub overflow_add-broken : goal.overflow_add-broken
-overflow_add-broken c =
+pub overflow_add-result : goal.overflow_add-result
+overflow_add-result c =
     let r = c.remaining.ensures in
     omega (arith, r, starts-room c.bytes-bytes.result c.args.payload.now c.args.table.pos c.args.count _ r)
 

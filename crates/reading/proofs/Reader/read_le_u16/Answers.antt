@@ -1,11 +1,9 @@
--- `read_le_u16` answers the number of two bytes there, or that the data ends inside it. Assumes nothing.
+-- `read_le_u16` answers the number of the next two bytes. Assumes nothing.
 use mathlib.Core.Path.{sym}
 use native.Mathlib.Omega.{arith}
-use Rattle.reading.proofs.LawsPlaced.{run-got, run-word}
+use mir.Syntax.{w16}
+use Rattle.reading.proofs.LawsPlaced.{array_number}
 use Rattle.reading.proofs.Reader.read_le_u16.Goals as goal
 
-pub u16_at-requires : goal.u16_at-requires
-u16_at-requires c = omega (arith, run-got 2 _ _ _ _ _ (sym c.in_ok-start.ensures))
-
 pub returns : goal.returns
-returns c = run-word 2 _ _ _ _ _ _ (sym c.in_ok-start.ensures) c.u16_at.ensures
+returns c = array_number w16 _ _ (omega arith) (sym c.in_ok-bytes.ensures) c.from_le_bytes.ensures

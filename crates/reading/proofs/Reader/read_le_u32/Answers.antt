@@ -1,11 +1,9 @@
--- `read_le_u32` answers the number of four bytes there, or that the data ends inside it. Assumes nothing.
+-- `read_le_u32` answers the number of the next four bytes. Assumes nothing.
 use mathlib.Core.Path.{sym}
 use native.Mathlib.Omega.{arith}
-use Rattle.reading.proofs.LawsPlaced.{run-got, run-word}
+use mir.Syntax.{w32}
+use Rattle.reading.proofs.LawsPlaced.{array_number}
 use Rattle.reading.proofs.Reader.read_le_u32.Goals as goal
 
-pub u32_at-requires : goal.u32_at-requires
-u32_at-requires c = omega (arith, run-got 4 _ _ _ _ _ (sym c.in_ok-start.ensures))
-
 pub returns : goal.returns
-returns c = run-word 4 _ _ _ _ _ _ (sym c.in_ok-start.ensures) c.u32_at.ensures
+returns c = array_number w32 _ _ (omega arith) (sym c.in_ok-bytes.ensures) c.from_le_bytes.ensures

@@ -1,11 +1,9 @@
--- `read_le_u64` answers the number of eight bytes there, or that the data ends inside it. Assumes nothing.
+-- `read_le_u64` answers the number of the next eight bytes. Assumes nothing.
 use mathlib.Core.Path.{sym}
 use native.Mathlib.Omega.{arith}
-use Rattle.reading.proofs.LawsPlaced.{run-got, run-word}
+use mir.Syntax.{w64}
+use Rattle.reading.proofs.LawsPlaced.{array_number}
 use Rattle.reading.proofs.Reader.read_le_u64.Goals as goal
 
-pub u64_at-requires : goal.u64_at-requires
-u64_at-requires c = omega (arith, run-got 8 _ _ _ _ _ (sym c.in_ok-start.ensures))
-
 pub returns : goal.returns
-returns c = run-word 8 _ _ _ _ _ _ (sym c.in_ok-start.ensures) c.u64_at.ensures
+returns c = array_number w64 _ _ (omega arith) (sym c.in_ok-bytes.ensures) c.from_le_bytes.ensures
