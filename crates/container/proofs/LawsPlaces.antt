@@ -3,7 +3,6 @@ use mathlib.Core.Path.{◌≡◌, refl, sym, ◌∙◌}
 use Prim.Native.Nat.{ℕ, zero, suc, ◌<◌, ◌≤◌}
 use native.Mathlib.Omega.{arith}
 use native.Mathlib.Decide.{ℕ_discrete}
-use mathlib.Core.Bool.{true}
 use mathlib.Core.Option.{some}
 use mathlib.Core.List.{List, [], ◌∷◌, ◌++◌}
 use lib.ListN.{length, get_or, set, length-set, get_or-eq_default}
@@ -14,6 +13,7 @@ use Rattle.format.specs.DecodeContainer.{last_with, place_of, places_of}
 use Rattle.format.proofs.LawsWalk.{last-added}
 use Rattle.container.specs.declared.sections.SectionPlace.{SectionPlace}
 use Rattle.container.specs.Container.{held_place, nowhere, held_places}
+pub use Rattle.container.specs.Container.{place_in}
 
 -- The last of these sections and one more is that one, if it has this id ..
 pub last-same : (id : ℕ) (ss : List Section) (s : Section) → s.id ≡ id → last_with id (ss ++ (s ∷ [])) ≡ some s
@@ -44,10 +44,6 @@ held_at ss (suc (suc (suc (suc (suc zero))))) h = refl
 held_at ss (suc (suc (suc (suc (suc (suc zero)))))) h = refl
 held_at ss (suc (suc (suc (suc (suc (suc (suc zero))))))) h = refl
 held_at ss (suc (suc (suc (suc (suc (suc (suc (suc i)))))))) h = absurd (omega arith)
-
--- The place of a section that counts.
-abbrev pub place_in : Section → SectionPlace
-place_in s = record { presence = true; start = s.start; len = length s.payload }
 
 held-set : (ss : List Section) (s : Section) (i : ℕ) → i < 8 →
     get_or (set (held_places ss) s.id (place_in s)) i nowhere ≡ held_place (place_of (last_with i (ss ++ (s ∷ []))))
