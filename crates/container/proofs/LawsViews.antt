@@ -62,10 +62,10 @@ module _ (file : List ℕ) (id : ℕ) where
     unfolding section_view and_then
     view-asked = rw (sections-opened file, e)
 
-    view_known : id < num_sections →
-        choose (dec_lt id num_sections) (payload_span (last_with id x.sections)) not_there ≡
-        payload_span (last_with id x.sections)
-    view_known h = choose_yes (dec_lt id num_sections) (payload_span (last_with id x.sections)) not_there h
+    -- Of an id that a section may have, the last section with it is viewed.
+    pub view_known : id < num_sections → section_view file id ≡ payload_span (last_with id x.sections)
+    view_known h =
+        view-asked ∙ choose_yes (dec_lt id num_sections) (payload_span (last_with id x.sections)) not_there h
 
     module _ (p : SectionPlace) (q : p ≡ get_or (held_places x.sections) id nowhere) where
       place_in : id < num_sections → p ≡ held_place (place_of (last_with id x.sections))
@@ -80,7 +80,7 @@ module _ (file : List ℕ) (id : ℕ) where
           elim (dec_lt id num_sections) [
             | yes h ↦
                 let r : p ≡ held_place (place_of (last_with id x.sections)) = place_in h in
-                rw (r, view-asked, view_known h)
+                rw (r, view_known h)
                 (held-there (last_with id x.sections) (rw r at t))
             | no h ↦ absurd (true≢false (sym t ∙ ap (λ z. z.presence) (place_out h)))
           ]
@@ -91,7 +91,7 @@ module _ (file : List ℕ) (id : ℕ) where
           elim (dec_lt id num_sections) [
             | yes h ↦
                 let r : p ≡ held_place (place_of (last_with id x.sections)) = place_in h in
-                rw (view-asked, view_known h)
+                rw (view_known h)
                 (held-absent (last_with id x.sections) (rw r at t))
             | no h ↦ sym (view-asked ∙ choose_no (dec_lt id num_sections) _ not_there h)
           ]
@@ -106,7 +106,7 @@ unfolding payload_span
 found file id s x n h =
     let p = x.payload in
     let o = container-opened file x.version x.sections x.container n in
-    view-asked file id _ o ∙ view_known file id _ o h ∙
+    view_known file id _ o h ∙
     ap payload_span (last_some id x.sections p.section p.counts) ∙
     ap₂ (λ a b. accepted (record { offset = a; size = b })) (sym p.starts) (sym p.sized)
 

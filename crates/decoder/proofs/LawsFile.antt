@@ -2,18 +2,21 @@
 use mathlib.Core.Path.{◌≡◌, sym, ap, ◌∙◌}
 use Prim.Native.Nat.{ℕ}
 use mathlib.Core.List.{List}
+use Rattle.std.specs.Prelude.{Result}
 use Rattle.format.specs.Read.{map_read}
 use Rattle.format.specs.Decode.{decode}
 use Rattle.format.specs.Stores.{read_into}
 use Rattle.format.proofs.Decoded.{map-inv, map-refused, decode-sound, decode-complete}
 use Rattle.format.proofs.Stored.{stored-kept, stored-sound, stored-complete}
-use Rattle.payloads.specs.declared.FileRead.{FileRead}
+use Rattle.container.specs.declared.sections.Stopped.{Stopped}
+use Rattle.container.proofs.LawsShown.{read-only}
+use Rattle.payloads.specs.declared.Need.{Need}
 use Rattle.payloads.specs.Whole.{file_read, need_of, Reads}
-use Rattle.payloads.proofs.LawsReads.{file-only, reads_only}
+use Rattle.payloads.proofs.LawsReads.{reads_only}
 use Rattle.decoder.specs.File.{MeasurePost, ReadPost}
 
 -- What is measured as the model says is measured as promised ..
-pub measure-post : (l : List ℕ) (r : FileRead) → file_read r ≡ map_read need_of (decode l) → MeasurePost l r
+pub measure-post : (l : List ℕ) (r : Result Need Stopped) → file_read r ≡ map_read need_of (decode l) → MeasurePost l r
 unfolding map_read
 measure-post l r e =
     record {
@@ -23,7 +26,7 @@ measure-post l r e =
     }
 
 -- .. and so with what is read.
-pub read-post : (l s s' p p' : List ℕ) (r : FileRead) → Reads l s s' p p' r → ReadPost l s s' p p' r
+pub read-post : (l s s' p p' : List ℕ) (r : Result Need Stopped) → Reads l s s' p p' r → ReadPost l s s' p p' r
 unfolding map_read
 read-post l s s' p p' r x =
     record {
@@ -39,10 +42,10 @@ read-post l s s' p p' r x =
     }
 
 -- The contract of `measure` allows one answer ..
-pub measure-only : (l : List ℕ) (r q : FileRead) → MeasurePost l r → MeasurePost l q → r ≡ q
-measure-only l r q x y = file-only x.answer y.answer
+pub measure-only : (l : List ℕ) (r q : Result Need Stopped) → MeasurePost l r → MeasurePost l q → r ≡ q
+measure-only l r q x y = read-only x.answer y.answer
 
 -- .. and that of `read` one answer and one content of each store.
-pub read_only : (l s s' s'' p p' p'' : List ℕ) (r q : FileRead) → ReadPost l s s' p p' r → ReadPost l s s'' p p'' q →
+pub read_only : (l s s' s'' p p' p'' : List ℕ) (r q : Result Need Stopped) → ReadPost l s s' p p' r → ReadPost l s s'' p p'' q →
     (r ≡ q) × (s' ≡ s'') × (p' ≡ p'')
 read_only l s s' s'' p p' p'' r q x y = reads_only l s s' s'' p p' p'' r q x.reads y.reads

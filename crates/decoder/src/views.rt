@@ -1,97 +1,36 @@
-// The views of a string, a constant and a body: the whole file is judged first, and then the row is found in the payload
-// of its section.
-ghost use Rattle.std.specs.Prelude.{◌≡◌, get_or};
-ghost use Rattle.format.specs.Views.{row_view};
-ghost use Rattle.container.specs.Container.{nowhere, opened, held_container};
-ghost use Rattle.container.specs.Views.{view_of};
-ghost use Rattle.entries.specs.Places.{Finds};
-ghost use Rattle.decoder.specs.Views.{id_of, rows_of, rows_at, not_there, Accepted, RowPost};
+// The view of a row: the whole file is judged first, and then the row is found in the payload of its section.
+ghost use Rattle.enums.specs.Numbered.{id_of};
+ghost use Rattle.decoder.specs.Views.{rows_of, FindsRow, RowPost};
 
 use crate::measure;
-use container::sections::{SectionPlace, Stopped};
-use container::{View, ViewRead, sections};
-use entries::places::{PlaceRead, body_place, constant_place, string_place};
-use enums::{Refusal, Section, Stage};
-use payloads::FileRead;
+use container::View;
+use container::sections::Stopped;
+use entries::places::Place;
+use enums::{Refusal, Section};
+use reading::Refused;
 
-// The tables whose rows are runs of bytes.
-#[derive(Clone, Copy)]
-pub enum RowKind {
-    String,
-    Constant,
-    Body,
-}
-
-// The id of the section that has the rows.
-fn section_of(kind: RowKind) -> u64
-    ensures { result ≡ id_of kind }
+// The view of the row that `find` finds in the payload of a section.
+pub fn row<F: FnOnce(&[u8], u64) -> Result<Option<Place>, Refused>>(
+    file: &[u8],
+    section: Section,
+    index: u64,
+    find: F,
+) -> Result<View, Stopped>
+    requires callable { F.IsAlwaysCallable find }
+    requires finds { FindsRow (F.post find) section index }
+    ensures { RowPost (rows_of section) (id_of section) file.now index result }
 {
-    match kind {
-        RowKind::String => Section::STRING as u64,
-        RowKind::Constant => Section::CONSTANT as u64,
-        RowKind::Body => Section::FUNC as u64,
-    }
-}
-
-// Where a row stands in its payload.
-fn place_in(kind: RowKind, payload: &[u8], index: u64) -> PlaceRead
-    ensures { Finds (λ o. rows_at kind o payload.now 0) payload.now index result }
-{
-    match kind {
-        RowKind::String => string_place(payload, index),
-        RowKind::Constant => constant_place(payload, index),
-        RowKind::Body => body_place(payload, index),
-    }
-}
-
-// There is no row of this number.
-fn absent() -> ViewRead
-    ensures { view_of result ≡ not_there }
-{
-    ViewRead::Stop(Stopped {
-        no: Refusal::ABSENT,
-        stage: Stage::CALL,
-        at: 0,
-    })
-}
-
-// Where the payload that has the rows stands.
-fn payload_place(file: &[u8], kind: RowKind) -> SectionPlace
-    ensures { result ≡ get_or (held_container (opened file.now)).places (id_of kind) nowhere }
-{
-    let container = sections::read_container(file);
-    let places = container.places;
-    sections::get(places, section_of(kind))
-}
-
-// The row of a file that is accepted: its payload lies in the file, and the row in the payload.
-fn accepted_row(file: &[u8], kind: RowKind, index: u64) -> ViewRead
-    requires { Accepted file.now }
-    ensures { view_of result ≡ row_view (rows_of kind) file.now index }
-{
-    let place = payload_place(file, kind);
-    if !place.presence {
-        return absent();
-    }
-    let start = place.start;
-    let end = start + place.len;
-    // A table of a file that is accepted is not refused.
-    match place_in(kind, &file[start..end], index) {
-        PlaceRead::Stop(_) => absent(),
-        PlaceRead::Absent => absent(),
-        PlaceRead::At(at, len) => ViewRead::Got(View {
-            start: start + at,
-            len,
+    measure(file)?;
+    let payload = container::section(file, section.id() as u64)?;
+    let start = payload.start;
+    let end = start + payload.len;
+    match find(&file[start..end], index) {
+        Ok(Some(row)) => Ok(View {
+            start: start + row.start,
+            len: row.len,
         }),
-    }
-}
-
-// The view of a row: the whole file is judged first.
-pub fn row(file: &[u8], kind: RowKind, index: u64) -> ViewRead
-    ensures { RowPost (rows_of kind) (id_of kind) file.now index result }
-{
-    match measure(file) {
-        FileRead::Stop(x) => ViewRead::Stop(x),
-        FileRead::Got(_) => accepted_row(file, kind, index),
+        Ok(None) => Err(Stopped::call(Refusal::Absent)),
+        // A table of a file that is accepted is not refused.
+        Err(_) => unreachable!(),
     }
 }
