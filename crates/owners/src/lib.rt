@@ -2,10 +2,11 @@
 // rows are looked through as a table has.
 #![tactic(auto)]
 
-ghost use Rattle.std.specs.Prelude.{◌+◌, ◌*◌, ◌≤◌, length, replicate, ◌≡◌};
+ghost use Rattle.std.specs.Prelude.{Bool, ◌+◌, ◌*◌, ◌≤◌, length, replicate, ◌≡◌};
 ghost use Rattle.encoding.specs.Out.{Tells};
 ghost use Rattle.slots.specs.Lent.{Rows, Once};
-ghost use Rattle.owners.specs.Owners.{rows_in, row_at, FreeRow, RowOf, Is, FirstRow, HeldAmong};
+ghost use Rattle.owners.specs.declared.Row.{Row};
+ghost use Rattle.owners.specs.Owners.{rows_in, row_at, is_free, is_of, Such, FreeRow, RowOf, FirstRow, HeldAmong};
 ghost use Rattle.owners.specs.Notes.{bucket_of, Notes, NewRow, SoFar, Turn};
 
 use sheet::word_at;
@@ -18,18 +19,19 @@ struct Row {
     len: u64,
 }
 
-// What a row is looked for by.
-#[derive(Clone, Copy)]
-enum Wanted {
-    Free,
-    HeldBy(u64),
-}
+impl Row {
+    fn is_free(self) -> bool
+        ensures { result ≡ is_free self }
+    {
+        self.mark == 0
+    }
 
-// The row that an instance has among good ones, or their number if it has none; or that they are not good.
-#[derive(Clone, Copy)]
-pub enum HeldRow {
-    Bad,
-    At(usize),
+    // Whether the row is taken by an instance.
+    fn is_of(self, instance: u64) -> bool
+        ensures { result ≡ is_of instance self }
+    {
+        self.instance == instance && self.mark != 0
+    }
 }
 
 // Reads a row. Its bytes are lent by themselves, so that the compiler sees that its words are there.
@@ -47,31 +49,18 @@ fn row_at(owners: &[u8], row: usize) -> Row
     }
 }
 
-// Whether a row is the wanted one.
-fn is_wanted(owners: &[u8], row: usize, wanted: Wanted) -> bool
-    requires { row * 24 + 24 ≤ length owners.now }
-    ensures { Tells (Is wanted owners.now row) result }
-{
-    let found = row_at(owners, row);
-    match wanted {
-        Wanted::Free => found.mark == 0,
-        Wanted::HeldBy(i) => found.instance == i && found.mark != 0,
-    }
-}
-
 // The first of the rows that is wanted; their number if none is.
-fn first_row(owners: &[u8], rows: usize, wanted: Wanted) -> usize
-    requires { rows * 24 ≤ length owners.now }
-    ensures { FirstRow (Is wanted owners.now) rows result }
+fn first_row<F: Fn(Row) -> bool>(owners: &[u8], rows: usize, wanted: F) -> usize
+    requires inside { rows * 24 ≤ length owners.now }
+    requires callable { F.IsAlwaysCallable wanted }
+    ensures { (is : Row → Bool) → ((r : Row) (t : Bool) → F.post wanted r t → t ≡ is r) → FirstRow (Such is owners.now) rows result }
 {
-    let mut row = 0;
-    while row < rows {
-        if is_wanted(owners, row, wanted) {
+    for row in 0..rows {
+        if wanted(row_at(owners, row)) {
             return row;
         }
-        row += 1;
     }
-    row
+    rows
 }
 
 // Where the row of an instance is noted. Numbers that follow each other, and addresses, fall apart.
@@ -98,10 +87,10 @@ fn is_new(owners: &[u8], row: usize, instance: u64, notes: &mut [u8]) -> bool
         let second = bucket(instance / 1048576);
         if notes[second] < 128 {
             notes[second] = (128 + row) as u8;
-            return !is_wanted(owners, seen - 128, Wanted::HeldBy(instance));
+            return !row_at(owners, seen - 128).is_of(instance);
         }
     }
-    first_row(owners, row, Wanted::HeldBy(instance)) == row
+    first_row(owners, row, |before| before.is_of(instance)) == row
 }
 
 // Whether a row is good, those before it being good and noted; then it is noted too. A taken one has no length above the
@@ -110,7 +99,7 @@ fn row_good(owners: &[u8], row: usize, this: Row, size: u64, notes: &mut [u8]) -
     requires { (row * 24 ≤ length owners.now) × SoFar size owners.now notes.old row × (this ≡ row_at owners.now row) }
     ensures { Turn size owners.now row notes.new result }
 {
-    if this.mark == 0 {
+    if this.is_free() {
         return true;
     }
     if size < this.len {
@@ -125,8 +114,7 @@ fn rows_good(owners: &[u8], rows: usize, size: u64, notes: &mut [u8]) -> bool
     requires { (rows * 24 ≤ length owners.now) × (notes.old ≡ replicate 1024 0) }
     ensures { Tells (Rows size owners.now rows) result }
 {
-    let mut row = 0;
-    while row < rows {
+    for row in 0..rows {
         let this = row_at(owners, row);
         let first = bucket(this.instance);
         if notes[first] < 128 && this.len <= size {
@@ -134,7 +122,6 @@ fn rows_good(owners: &[u8], rows: usize, size: u64, notes: &mut [u8]) -> bool
         } else if !row_good(owners, row, this, size, notes) {
             return false;
         }
-        row += 1;
     }
     true
 }
@@ -149,30 +136,29 @@ fn noted_row(owners: &[u8], rows: usize, instance: u64, notes: &[u8]) -> usize
     let seen = notes[first] as usize;
     if 128 <= seen {
         let noted = seen - 128;
-        if noted < rows {
-            if is_wanted(owners, noted, Wanted::HeldBy(instance)) {
-                return noted;
-            }
+        if noted < rows && row_at(owners, noted).is_of(instance) {
+            return noted;
         }
     }
-    first_row(owners, rows, Wanted::HeldBy(instance))
+    first_row(owners, rows, |row| row.is_of(instance))
 }
 
-// Judges the rows of a table, for slots of so many bytes, and finds the one that an instance has.
-pub fn held_row(owners: &[u8], size: u64, instance: u64) -> HeldRow
+// Judges the rows of a table, for slots of so many bytes, and finds the one that an instance has: their number if it has
+// none, and nothing if they are not good.
+pub fn held_row(owners: &[u8], size: u64, instance: u64) -> Option<usize>
     ensures { HeldAmong size instance owners.now (rows_in owners.now) result }
 {
     let rows = owners.len() / 24;
     let mut notes = [0u8; 1024];
     if !rows_good(owners, rows, size, &mut notes) {
-        return HeldRow::Bad;
+        return None;
     }
-    HeldRow::At(noted_row(owners, rows, instance, &notes))
+    Some(noted_row(owners, rows, instance, &notes))
 }
 
 // The first row of a table that is free; the number of its rows if none is.
 pub fn free_row(owners: &[u8]) -> usize
     ensures { FirstRow (FreeRow owners.now) (rows_in owners.now) result }
 {
-    first_row(owners, owners.len() / 24, Wanted::Free)
+    first_row(owners, owners.len() / 24, |row| row.is_free())
 }

@@ -1,22 +1,22 @@
--- `first_row` finds the first row that is wanted. Assumes nothing.
+-- `first_row` finds the first row that is wanted: in its loop, none so far is. Assumes nothing.
+use mathlib.Core.Path.{◌≡◌, sym, ap, ◌∙◌}
+use mathlib.Core.Bool.{true≢false}
 use native.Mathlib.Omega.{arith}
 use Rattle.owners.proofs.LawsOwners.{first-here, first-none, one_more}
 use Rattle.owners.proofs.first_row.Goals as goal
 
 pub loop-row-init : goal.loop-row-init
-loop-row-init c = (omega arith, λ l h. absurd (omega arith))
+loop-row-init g c = λ is h k l. absurd (omega arith)
 
-pub returns-then-is_wanted : goal.returns-then-is_wanted
-returns-then-is_wanted c =
-    let l = c.loop-row in
-    first-here c.loop-row-test.true (c.is_wanted.ensures.holds c.if-is_wanted.true) l.invariant.1
+pub returns-then-wanted : goal.returns-then-wanted
+returns-then-wanted g c =
+    λ is h. let t : c.wanted.result ≡ is c.row_at.result = h _ _ c.wanted.ensures in
+    first-here c.loop-row-test.true (ap is (sym c.row_at.ensures) ∙ sym t ∙ c.if-wanted.true) (c.loop-row.invariant is h)
 
 pub loop-row-preserved : goal.loop-row-preserved
-loop-row-preserved c =
-    let l = c.loop-row in
-    (omega arith, one_more (c.is_wanted.ensures.fails c.if-is_wanted.false) l.invariant.1)
+loop-row-preserved g c =
+    λ is h. let t : c.wanted.result ≡ is c.row_at.result = h _ _ c.wanted.ensures in
+    one_more (λ s. true≢false (sym s ∙ ap is (sym c.row_at.ensures) ∙ sym t ∙ c.if-wanted.false)) (c.loop-row.invariant is h)
 
 pub returns : goal.returns
-returns c =
-    let l = c.loop-row in
-    first-none l.invariant.0 c.loop-row-test.false l.invariant.1
+returns g c = λ is h. first-none (omega arith) (omega arith) (λ l i. c.loop-row.invariant is h l (omega arith))

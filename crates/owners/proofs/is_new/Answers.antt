@@ -5,7 +5,8 @@ use native.Mathlib.Omega.{arith}
 use lib.ListN.{get_or}
 use borrow.Author.Rules.{rules}
 use Rattle.encoding.proofs.LawsTells.{tells-yes}
-use Rattle.owners.proofs.LawsOwners.{tells-not}
+use Rattle.owners.specs.Owners.{is_of}
+use Rattle.owners.proofs.LawsOwners.{tells-not, first-as, such-of, tells-such}
 use Rattle.owners.proofs.LawsNotes.{
   first-new,
   first-noted,
@@ -55,8 +56,8 @@ bounds-notes-second-then-notes-second-lt128 c =
     let s = c.requires.1.size in
     search rules
 
-pub is_wanted-requires : goal.is_wanted-requires
-is_wanted-requires c =
+pub row_at-requires : goal.row_at-requires
+row_at-requires c =
     let b = c.bucket-first in
     omega (arith, c.requires.0, c.requires.1.before b.result (omega (arith, b.ensures)))
 
@@ -69,7 +70,7 @@ returns-then-notes-second-lt128 c =
     let e = subst (λ j. get_or c.args.notes.now j 0 < 128) d c.if-notes-second-lt128.true in
     let m = c.if-row-lt128.true in
     record {
-      told = tells-not (rw b at c.is_wanted.ensures) (second-old x _ f) (second-new x _ f m e);
+      told = tells-not (rw b at (tells-such (is_of c.args.instance) _ _ (such-of _ _ _) c.row_at.ensures c.is_of.ensures)) (second-old x _ f) (second-new x _ f m e);
       after = second-noted x _ f _ _ d c.if-notes-second-lt128.true (omega arith) (omega arith);
     }
 
@@ -79,7 +80,7 @@ returns c =
     let b = c.bucket-first.ensures in
     let f = subst (λ j. 128 ≤ get_or c.args.notes.now j 0) b c.if-seen-lt128.false in
     record {
-      told = first-none-tells c.first_row.ensures;
+      told = first-none-tells (first-as (such-of _ _) (c.first_row.ensures (is_of c.args.instance) (λ r t h. search rules)));
       after = both-full x _ f
           (λ m. elim c.if-row-lt128.branch [
             | then-row-lt128+else-notes-second-lt128 w ↦ subst (λ j. 128 ≤ get_or c.args.notes.now j 0) w.bucket-second.ensures w.if-notes-second-lt128.false

@@ -9,23 +9,23 @@ use Rattle.owners.proofs.rows_good.Goals as goal
 use Rattle.owners.proofs.rows_good.Goals.{then-notes-first-lt128+then-this-size, else-notes-first-lt128+else-not-row_good}
 
 pub loop-row-init : goal.loop-row-init
-loop-row-init c = (omega arith, record { rows = no_rows _ _; noted = no-notes _ _ c.requires.1 })
+loop-row-init c = record { rows = no_rows _ _; noted = no-notes _ _ c.requires.1 }
 
 pub bounds-notes-first : goal.bounds-notes-first
 bounds-notes-first c =
     let b = c.bucket-first.ensures in
-    let s = c.loop-row.invariant.1.noted.size in
+    let s = c.loop-row.invariant.noted.size in
     search rules
 
 pub bounds-notes-first-then-this-size : goal.bounds-notes-first-then-this-size
 bounds-notes-first-then-this-size c =
     let b = c.bucket-first.ensures in
-    let s = c.loop-row.invariant.1.noted.size in
+    let s = c.loop-row.invariant.noted.size in
     search rules
 
 pub row_good-requires : goal.row_good-requires
 row_good-requires c =
-    (omega (arith, c.loop-row-test.true, c.requires.0), c.loop-row.invariant.1, c.row_at-this.ensures)
+    (omega (arith, c.loop-row-test.true, c.requires.0), c.loop-row.invariant, c.row_at-this.ensures)
 
 pub shape_of-notes-then-not-row_good : goal.shape_of-notes-then-not-row_good
 shape_of-notes-then-not-row_good c =
@@ -41,16 +41,14 @@ pub loop-row-preserved : goal.loop-row-preserved
 loop-row-preserved c =
     let l = c.loop-row in
     let i = ap (λ r. r.instance) c.row_at-this.ensures in
-    let k = ap (λ r. r.len) c.row_at-this.ensures in (
-      omega (arith, c.loop-row-test.true),
-      elim c.if-notes-first-lt128.branch [
-        | then-notes-first-lt128+then-this-size w ↦ quick-turn l.invariant.1 _ _ _ _ i c.bucket-first.ensures w.if-notes-first-lt128.true (omega (arith, k, w.if-this-size.true)) (omega arith) (omega arith)
-            (λ h. omega arith) w.notes-is
-        | else-notes-first-lt128+else-not-row_good w ↦ good_turn w.row_good.ensures w.if-not-row_good.false w.notes-is
-      ],
-    )
+    let k = ap (λ r. r.len) c.row_at-this.ensures in
+    elim c.if-notes-first-lt128.branch [
+      | then-notes-first-lt128+then-this-size w ↦ quick-turn l.invariant _ _ _ _ i c.bucket-first.ensures w.if-notes-first-lt128.true (omega (arith, k, w.if-this-size.true)) (omega arith) (omega arith)
+          (λ h. omega arith) w.notes-is
+      | else-notes-first-lt128+else-not-row_good w ↦ good_turn w.row_good.ensures w.if-not-row_good.false w.notes-is
+    ]
 
 pub returns : goal.returns
 returns c =
     let l = c.loop-row in
-    tells-yes (all-rows l.invariant.1 _ l.invariant.0 c.loop-row-test.false)
+    tells-yes (all-rows l.invariant _ (omega arith) c.loop-row-test.false)

@@ -1,0 +1,8 @@
+-- `free_row` finds the first row that is free. Assumes nothing.
+use borrow.Author.Rules.{rules}
+use Rattle.owners.specs.Owners.{is_free}
+use Rattle.owners.proofs.LawsOwners.{first-as, such-free}
+use Rattle.owners.proofs.free_row.Goals as goal
+
+pub returns : goal.returns
+returns c = first-as (such-free _) (c.first_row.ensures is_free (λ r t h. search rules))
