@@ -4,12 +4,12 @@ use borrow.Author.Rules.{rules}
 use Rattle.owners.specs.Owners.{is_of}
 use Rattle.owners.proofs.LawsOwners.{first-as, such-of, tells-such}
 use Rattle.owners.proofs.LawsNotes.{only_row}
-use Rattle.owners.proofs.noted_row.Goals as goal
+use Rattle.owners.proofs.Table.noted_row.Goals as goal
 
 pub bounds-notes-first : goal.bounds-notes-first
 bounds-notes-first c =
     let b = c.bucket-first.ensures in
-    let s = c.requires.1 in
+    let s = c.requires.0 in
     search rules
 
 pub overflow_cast-seen : goal.overflow_cast-seen
@@ -17,9 +17,9 @@ overflow_cast-seen c = record { fits = omega (arith, c.type_inv.notes c.bucket-f
 
 pub returns-then-is_of : goal.returns-then-is_of
 returns-then-is_of c =
-    let s = such-of c.args.instance c.args.owners.now _ in
-    let p = (tells-such (is_of c.args.instance) _ _ s c.row_at.ensures c.is_of.ensures).holds c.if-is_of.true in
-    only_row _ _ _ _ c.requires.2 c.if-noted-rows.true p
+    let s = such-of c.args.instance c.args.self.owners.now _ in
+    let p = (tells-such (is_of c.args.instance) _ _ s c.row.ensures c.is_of.ensures).holds c.if-is_of.true in
+    only_row _ _ _ _ c.requires.1 c.if-noted-self.true p
 
 pub returns : goal.returns
 returns c = first-as (such-of _ _) (c.first_row.ensures (is_of c.args.instance) (λ r t h. search rules))

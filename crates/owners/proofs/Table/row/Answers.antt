@@ -8,7 +8,7 @@ use lib.ListN.{length, take, drop, get_or}
 use Rattle.sheet.specs.Store.{words_in}
 use Rattle.owners.specs.Owners.{row_at}
 use Rattle.slots.proofs.LawsTable.{row_word}
-use Rattle.owners.proofs.row_at.Goals as goal
+use Rattle.owners.proofs.Table.row.Goals as goal
 
 -- The words of a row, as they are read.
 row_read : (owners : List ℕ) (k a b c : ℕ) → k * 24 + 24 ≤ length owners →
@@ -24,5 +24,5 @@ row_read owners k a b c h e f g =
 
 pub returns : goal.returns
 returns c =
-    row_read c.args.owners.now c.args.row _ _ _ c.requires c.word_at.ensures c.word_at-2.ensures
+    row_read c.args.self.owners.now c.args.row _ _ _ (omega arith) c.word_at.ensures c.word_at-2.ensures
     c.word_at-3.ensures

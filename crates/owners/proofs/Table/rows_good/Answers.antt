@@ -5,11 +5,11 @@ use borrow.Author.Rules.{rules}
 use Rattle.encoding.proofs.LawsTells.{tells-yes, tells-no}
 use Rattle.owners.proofs.LawsOwners.{no_rows}
 use Rattle.owners.proofs.LawsNotes.{no-notes, fewer-rows, quick-turn, good_turn, all-rows}
-use Rattle.owners.proofs.rows_good.Goals as goal
-use Rattle.owners.proofs.rows_good.Goals.{then-notes-first-lt128+then-this-size, else-notes-first-lt128+else-not-row_good}
+use Rattle.owners.proofs.Table.rows_good.Goals as goal
+use Rattle.owners.proofs.Table.rows_good.Goals.{then-notes-first-lt128+then-this-size, else-notes-first-lt128+else-not-row_good}
 
 pub loop-row-init : goal.loop-row-init
-loop-row-init c = record { rows = no_rows _ _; noted = no-notes _ _ c.requires.1 }
+loop-row-init c = record { rows = no_rows _ _; noted = no-notes _ _ c.requires }
 
 pub bounds-notes-first : goal.bounds-notes-first
 bounds-notes-first c =
@@ -25,11 +25,11 @@ bounds-notes-first-then-this-size c =
 
 pub row_good-requires : goal.row_good-requires
 row_good-requires c =
-    (omega (arith, c.loop-row-test.true, c.requires.0), c.loop-row.invariant, c.row_at-this.ensures)
+    (c.loop-row-test.true, c.loop-row.invariant, c.row-this.ensures)
 
 pub shape_of-notes-then-not-row_good : goal.shape_of-notes-then-not-row_good
 shape_of-notes-then-not-row_good c =
-    let e = (no-notes c.args.owners.now _ c.requires.1).size in
+    let e = (no-notes c.args.self.owners.now _ c.requires).size in
     search rules
 
 pub returns-then-not-row_good : goal.returns-then-not-row_good
@@ -40,8 +40,8 @@ returns-then-not-row_good c =
 pub loop-row-preserved : goal.loop-row-preserved
 loop-row-preserved c =
     let l = c.loop-row in
-    let i = ap (λ r. r.instance) c.row_at-this.ensures in
-    let k = ap (λ r. r.len) c.row_at-this.ensures in
+    let i = ap (λ r. r.instance) c.row-this.ensures in
+    let k = ap (λ r. r.len) c.row-this.ensures in
     elim c.if-notes-first-lt128.branch [
       | then-notes-first-lt128+then-this-size w ↦ quick-turn l.invariant _ _ _ _ i c.bucket-first.ensures w.if-notes-first-lt128.true (omega (arith, k, w.if-this-size.true)) (omega arith) (omega arith)
           (λ h. omega arith) w.notes-is

@@ -16,8 +16,8 @@ use Rattle.owners.proofs.LawsNotes.{
   both-full,
   first-none-tells,
 }
-use Rattle.owners.proofs.is_new.Goals as goal
-use Rattle.owners.proofs.is_new.Goals.{then-row-lt128+else-notes-second-lt128, else-row-lt128}
+use Rattle.owners.proofs.Table.is_new.Goals as goal
+use Rattle.owners.proofs.Table.is_new.Goals.{then-row-lt128+else-notes-second-lt128, else-row-lt128}
 
 pub bounds-notes-first : goal.bounds-notes-first
 bounds-notes-first c =
@@ -56,8 +56,8 @@ bounds-notes-second-then-notes-second-lt128 c =
     let s = c.requires.1.size in
     search rules
 
-pub row_at-requires : goal.row_at-requires
-row_at-requires c =
+pub row-requires : goal.row-requires
+row-requires c =
     let b = c.bucket-first in
     omega (arith, c.requires.0, c.requires.1.before b.result (omega (arith, b.ensures)))
 
@@ -70,7 +70,7 @@ returns-then-notes-second-lt128 c =
     let e = subst (λ j. get_or c.args.notes.now j 0 < 128) d c.if-notes-second-lt128.true in
     let m = c.if-row-lt128.true in
     record {
-      told = tells-not (rw b at (tells-such (is_of c.args.instance) _ _ (such-of _ _ _) c.row_at.ensures c.is_of.ensures)) (second-old x _ f) (second-new x _ f m e);
+      told = tells-not (rw b at (tells-such (is_of c.args.instance) _ _ (such-of _ _ _) c.row.ensures c.is_of.ensures)) (second-old x _ f) (second-new x _ f m e);
       after = second-noted x _ f _ _ d c.if-notes-second-lt128.true (omega arith) (omega arith);
     }
 

@@ -4,7 +4,7 @@ use native.Mathlib.Omega.{arith}
 use Rattle.owners.specs.Owners.{is_free}
 use Rattle.owners.proofs.LawsOwners.{tells-such, such-free}
 use Rattle.owners.proofs.LawsNotes.{free-turn, long-turn, taken-turn}
-use Rattle.owners.proofs.row_good.Goals as goal
+use Rattle.owners.proofs.Table.row_good.Goals as goal
 
 pub returns-then-is_free : goal.returns-then-is_free
 returns-then-is_free c =
