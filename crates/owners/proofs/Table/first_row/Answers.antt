@@ -5,9 +5,6 @@ use native.Mathlib.Omega.{arith}
 use Rattle.owners.proofs.LawsOwners.{first-here, first-none, one_more}
 use Rattle.owners.proofs.Table.first_row.Goals as goal
 
-pub loop-row-init : goal.loop-row-init
-loop-row-init g c = λ is h k l. absurd (omega arith)
-
 pub returns-then-wanted : goal.returns-then-wanted
 returns-then-wanted g c =
     λ is h. let t : c.wanted.result ≡ is c.row.result = h _ _ c.wanted.ensures in

@@ -1,7 +1,6 @@
 -- `rows_good` tells whether the rows are good: in its loop, those so far are, and they are noted. Assumes nothing.
 use mathlib.Core.Path.{ap}
 use native.Mathlib.Omega.{arith}
-use borrow.Author.Rules.{rules}
 use Rattle.encoding.proofs.LawsTells.{tells-yes, tells-no}
 use Rattle.owners.proofs.LawsOwners.{no_rows}
 use Rattle.owners.proofs.LawsNotes.{no-notes, fewer-rows, quick-turn, good_turn, all-rows}
@@ -10,27 +9,6 @@ use Rattle.owners.proofs.Table.rows_good.Goals.{then-notes-first-lt128+then-this
 
 pub loop-row-init : goal.loop-row-init
 loop-row-init c = record { rows = no_rows _ _; noted = no-notes _ _ c.requires }
-
-pub bounds-notes-first : goal.bounds-notes-first
-bounds-notes-first c =
-    let b = c.bucket-first.ensures in
-    let s = c.loop-row.invariant.noted.size in
-    search rules
-
-pub bounds-notes-first-then-this-size : goal.bounds-notes-first-then-this-size
-bounds-notes-first-then-this-size c =
-    let b = c.bucket-first.ensures in
-    let s = c.loop-row.invariant.noted.size in
-    search rules
-
-pub row_good-requires : goal.row_good-requires
-row_good-requires c =
-    (c.loop-row-test.true, c.loop-row.invariant, c.row-this.ensures)
-
-pub shape_of-notes-then-not-row_good : goal.shape_of-notes-then-not-row_good
-shape_of-notes-then-not-row_good c =
-    let e = (no-notes c.args.self.owners.now _ c.requires).size in
-    search rules
 
 pub returns-then-not-row_good : goal.returns-then-not-row_good
 returns-then-not-row_good c =
