@@ -13,8 +13,7 @@ use Rattle.encoding.specs.Out.{Tells}
 use Rattle.encoding.proofs.LawsTells.{tells-yes, tells-no}
 use Rattle.std.specs.Prelude.{Option, None, Some}
 use Rattle.slots.specs.Lent.{mark_at, instance_at, length_at, Taken, Rows}
-use Rattle.owners.specs.declared.Row.{Row}
-use Rattle.owners.specs.Owners.{row_at, is_free, is_of, Such, FreeRow, RowOf, FirstRow, HeldAmong}
+use Rattle.owners.specs.Owners.{is_free, is_of, Such, FreeRow, RowOf, FirstRow, HeldAmong}
 
 -- A negation tells of what is the other's negation.
 pub tells-not : {P Q : Type 0} {t : Bool} → Tells P t → (P → ¬ Q) → (¬ P → Q) → Tells Q (not t)
@@ -48,13 +47,6 @@ such-of i owners k = (to, λ p. rw (eq-eqb (instance_at owners k) i p.1, ne_eqb 
     to e =
         let p = (and-eq-true_iff (eqb (instance_at owners k) i) (not (eqb (mark_at owners k) 0))).0 e in
         (taken (ℕ_discrete (mark_at owners k) 0) p.1, eqb-true (instance_at owners k) i p.0)
-
--- So its test, once it was read, tells whether it is.
-pub tells-such : {P : Type 0} (is : Row → Bool) (owners : List ℕ) (k : ℕ) {r : Row} {t : Bool} → Such is owners k ↔ P →
-    r ≡ row_at owners k → t ≡ is r → Tells P t
-tells-such is owners k {t = t} same e h =
-    let p : t ≡ is (row_at owners k) = h ∙ ap is e in
-    record { holds = λ q. same.0 (sym p ∙ q); fails = λ q x. true≢false (sym (p ∙ same.1 x) ∙ q) }
 
 -- The first row that is one thing is the first that is another, if these are the same.
 pub first-as : {P Q : ℕ → Type 0} {n r : ℕ} → ((k : ℕ) → P k ↔ Q k) → FirstRow P n r → FirstRow Q n r
@@ -113,15 +105,7 @@ module _ {z k : ℕ} {owners : List ℕ} (before : Rows z owners k) where
           subst (λ m. Taken owners l → Taken owners m → ¬ (instance_at owners l ≡ instance_at owners m)) e
           (once l (omega arith))
 
-  -- .. so a free one ..
-  pub rows-free : mark_at owners k ≡ 0 → Rows z owners (k + 1)
-  rows-free e = rows_more (λ t. absurd (omega arith)) (λ l h s t. absurd (omega arith))
-
-  -- .. and one that fits, whose instance has none before it.
+  -- .. so one that fits, whose instance has none before it.
   pub rows_taken : length_at owners k ≤ z → ((l : ℕ) → l < k → ¬ RowOf (instance_at owners k) owners l) →
       Rows z owners (k + 1)
   rows_taken fit none_before = rows_more (λ t. fit) (λ l h s t e. none_before l h (s, e))
-
--- A taken row that does not fit is not good.
-pub not-fitting : {z n k : ℕ} {owners : List ℕ} → k < n → Taken owners k → z < length_at owners k → ¬ Rows z owners n
-not-fitting {k = k} h t l x = omega (arith, x.fits k h t)
