@@ -1,28 +1,13 @@
 -- `put_items` puts the numbers of an array: in its loop, what is left goes behind what was put. Assumes nothing.
-use mathlib.Core.Path.{refl, sym, ap, ◌∙◌}
+use mathlib.Core.Path.{sym, ap, ◌∙◌}
 use Prim.Native.Nat.{◌+◌, ◌*◌, ◌≤◌}
-use native.Mathlib.Nat.{add-zero, zero-mul, suc-mul}
+use native.Mathlib.Nat.{suc-mul}
 use native.Mathlib.Numerals.{add-one}
 use native.Mathlib.Omega.{arith}
 use lib.ListN.{length}
 use Rattle.encoding.proofs.LawsOut.{length-put}
-use Rattle.encoding.proofs.LawsArray.{row-more, array-turn, array-done}
+use Rattle.encoding.proofs.LawsArray.{array-turn, array-done}
 use Rattle.encoding.proofs.put_items.Goals as goal
-
-pub loop-item-init : goal.loop-item-init
-loop-item-init g c = record { done = refl; place = sym (rw (zero-mul, add-zero)); same = refl }
-
-pub put_le-requires : goal.put_le-requires
-put_le-requires g c =
-    let w = g.T.Item.WIDTH in
-    let n : w ≤ 8 = g.met.T.Item.narrow in
-    let m = row-more _ _ w c.loop-item-test.true in
-    rw c.WIDTH.ensures (n, omega arith)
-
-pub overflow_add-next : goal.overflow_add-next
-overflow_add-next g c =
-    let m = row-more _ _ g.T.Item.WIDTH c.loop-item-test.true in
-    rw c.WIDTH-next.ensures record { fits = omega arith }
 
 pub loop-item-preserved : goal.loop-item-preserved
 loop-item-preserved g c =
