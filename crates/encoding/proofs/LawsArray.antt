@@ -7,7 +7,6 @@ use native.Mathlib.Numerals.{add-one}
 use native.Mathlib.Omega.{arith}
 use lib.ListN.{length, get_or, drop, length-append, length-drop, length-map, drop_of_length-le}
 use lib.Seq.{drop-cons}
-use Rattle.std.proofs.lemmas.Nat.{row_fits}
 use Rattle.exact.specs.Fixed.{bytes_of}
 use Rattle.exact.proofs.LawsFixed.{length-bytes_of}
 use Rattle.encoding.specs.Out.{put, flat}
@@ -18,10 +17,6 @@ pub length-flat : (w : ℕ) (vs : List ℕ) → length (flat w vs) ≡ length vs
 length-flat w [] = sym (zero-mul w)
 length-flat w (v ∷ vs) =
     rw length-append (omega (arith, length-bytes_of w v, length-flat w vs, suc-mul (length vs) w))
-
--- One more number of w bytes is inside the n of an array.
-pub row-more : (i n w : ℕ) → i < n → i * w + w ≤ n * w
-row-more i n w h = row_fits i w n w h (omega arith)
 
 module _ {A : Type 0} (w : ℕ) (f : A → ℕ) where
   -- One turn of a loop that puts numbers: the next of them, and the place behind it.
