@@ -2,7 +2,7 @@
 -- Assumes nothing.
 use mathlib.Core.Path.{◌≡◌, sym, ap, ◌∙◌, subst}
 use mathlib.Core.List.{List, [], ◌∷◌}
-use Prim.Native.Nat.{ℕ, zero, suc, max, ◌+◌, ◌-◌, ◌*◌, ◌/◌, ◌%◌, ◌^◌, ◌≤◌, ◌<◌}
+use Prim.Native.Nat.{ℕ, zero, suc, ◌+◌, ◌-◌, ◌*◌, ◌/◌, ◌%◌, ◌^◌, ◌≤◌, ◌<◌}
 use native.Mathlib.Omega.{arith}
 use native.Mathlib.Decide.{dec_lt}
 use native.Mathlib.Nat.{pow-le-pow_right, pow-suc, one-le-pow, mod-eq_of_lt}
@@ -151,6 +151,5 @@ shortest-log (suc j) k v l h m =
     rw (shortest-more j v s) (omega (arith, shortest-log j n (v / 128) (omega arith) (omega arith) (omega arith))))
 
 -- So the highest bit tells the size of a spelling.
-pub spelling-log : (k v : ℕ) → k < 64 → 2 ^ k ≤ max v 1 → max v 1 < 2 * 2 ^ k → length (spelling v) ≡ k / 7 + 1
-spelling-log k zero b l h = let f = below-seven k (omega arith) in rw (shortest-last 8 0 (omega arith)) (omega arith)
-spelling-log k (suc v) b l h = shortest-log 9 k (suc v) (omega arith) (omega arith) (omega arith)
+pub spelling-log : (k v : ℕ) → k < 64 → 2 ^ k ≤ v → v < 2 * 2 ^ k → length (spelling v) ≡ k / 7 + 1
+spelling-log k v b l h = shortest-log 9 k v l h (omega arith)

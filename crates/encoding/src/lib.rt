@@ -123,11 +123,14 @@ fn end_of(len: usize, at: usize, n: usize) -> Option<usize>
     (end <= len).then_some(end)
 }
 
-// How many bytes a varint takes: one for each seven bits, and one for 0.
+// How many bytes a varint takes: one for each seven bits. Most values are below 128: they take no look at their bits.
 fn varint_size(value: u64) -> usize
     ensures { result ≡ length (spelling value) }
 {
-    value.max(1).ilog2() as usize / 7 + 1
+    if value < 128 {
+        return 1;
+    }
+    value.ilog2() as usize / 7 + 1
 }
 
 // Whether a varint has room; its size is counted only where ten bytes have none.
@@ -199,12 +202,22 @@ fn put_items<T: Item>(out: &mut [u8], at: usize, items: &[T])
     }
 }
 
+// Fills a run with a byte. The library's `fill` stores the last byte by itself; this compiles to one call that sets them
+// all.
+fn fill(run: &mut [u8], byte: u8)
+    ensures { run.new ≡ replicate (length run.old) byte }
+{
+    for place in run {
+        *place = byte;
+    }
+}
+
 // Stores n bytes of 0 where they have room, and else nothing.
 pub fn clear(out: &mut [u8], at: usize, n: usize)
     ensures { out.new ≡ put out.old at (replicate n 0) }
 {
     if let Some(end) = end_of(out.len(), at, n) {
-        out[at..end].fill(0);
+        fill(&mut out[at..end], 0);
     }
 }
 
@@ -364,7 +377,7 @@ impl EncodingWriter {
     {
         let padding = padding_to(alignment, self.at);
         let end = end_of(out.len(), self.at, padding).ok_or(Refusal::Full)?;
-        out[self.at..end].fill(enums::ALIGNMENT_BYTE);
+        fill(&mut out[self.at..end], enums::ALIGNMENT_BYTE);
         Ok(self.asked(alignment).moved(end))
     }
 

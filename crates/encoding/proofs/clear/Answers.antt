@@ -8,7 +8,7 @@ use Rattle.encoding.proofs.LawsOut.{put_filled, put_full}
 use Rattle.encoding.proofs.clear.Goals as goal
 
 pub returns-in-Some : goal.returns-in-Some
-returns-in-Some c = put_filled _ _ _ _ _ (c.fill.ensures.after (λ y z. z)) refl c.in-Some.ensures
+returns-in-Some c = put_filled _ _ _ _ _ c.fill.ensures refl c.in-Some.ensures
 
 pub returns-in_default : goal.returns-in_default
 returns-in_default c =

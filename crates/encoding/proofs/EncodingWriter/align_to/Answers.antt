@@ -17,5 +17,5 @@ pub returns : goal.returns
 returns c =
     let h = rw c.in_ok-end.ensures.ok_part at c.end_of.ensures in
     let e = length-replicate _ _ ∙ sym c.padding_to-padding.ensures in
-    let f = c.fill.ensures.after (λ y z. z) in
+    let f = c.fill.ensures in
     rw (c.moved.ensures, c.asked.ensures) (puts-found Full _ _ _ e h (put_filled _ _ _ _ _ f c.padding_to-padding.ensures h))
