@@ -20,10 +20,10 @@ length-flat w (v ∷ vs) =
 
 module _ {A : Type 0} (w : ℕ) (f : A → ℕ) where
   -- One turn of a loop that puts numbers: the next of them, and the place behind it.
-  pub array-turn : (out out' : List ℕ) (xs : List A) (at i v : ℕ) (x : A) → i < length xs →
-      at + length xs * w ≤ length out → v ≡ f (get_or xs i x) → out' ≡ put out (at + i * w) (bytes_of w v) →
-      put out (at + i * w) (flat w (map f (drop i xs))) ≡ put out' (at + (i + 1) * w) (flat w (map f (drop (i + 1) xs)))
-  array-turn out out' xs at i v x h r e o =
+  pub array-turn : (out out' : List ℕ) (xs : List A) (at next i v : ℕ) (x : A) → i < length xs → next ≡ at + i * w →
+      at + length xs * w ≤ length out → v ≡ f (get_or xs i x) → out' ≡ put out next (bytes_of w v) →
+      put out next (flat w (map f (drop i xs))) ≡ put out' (next + w) (flat w (map f (drop (i + 1) xs)))
+  array-turn out out' xs at next i v x h p r e o =
       let rest = map f (drop (suc i) xs) in
       let k = length xs - suc i in
       let l : length rest ≡ k = length-map (drop (suc i) xs) f ∙ length-drop (suc i) xs in
@@ -32,9 +32,8 @@ module _ {A : Type 0} (w : ℕ) (f : A → ℕ) where
       let s : length xs ≡ i + suc k = omega arith in
       let m : length xs * w ≡ i * w + (k * w + w) =
       ap (λ (m : ℕ). m * w) s ∙ add-mul i (suc k) w ∙ ap (λ (m : ℕ). i * w + m) (suc-mul k w) in
-      let p : at + i * w + length (bytes_of w v) ≡ at + suc i * w = omega (arith, suc-mul i w) in
       rw (add-one i, drop-cons xs i x h, ← e)
-      (put-append (bytes_of w v) (flat w rest) out (at + i * w) (omega arith) ∙ rw (← o, p))
+      (put-append (bytes_of w v) (flat w rest) out next (omega arith) ∙ rw (← o, b))
 
   -- Nothing is left past the last number.
   pub array-done : (out : List ℕ) (xs : List A) (at i : ℕ) → length xs ≤ i →

@@ -2,13 +2,15 @@
 use mathlib.Core.Path.{◌≡◌, refl, sym, ap, ◌∙◌, subst}
 use mathlib.Core.Logic.{◌⊎◌, inl, inr}
 use mathlib.Core.List.{List, [], ◌∷◌, ◌++◌, append_assoc}
-use Prim.Native.Nat.{ℕ, suc, ◌+◌, ◌-◌, ◌/◌, ◌%◌, ◌^◌, ◌≤◌, ◌<◌, max}
-use native.Mathlib.Nat.{add-zero}
+use Prim.Native.Nat.{ℕ, zero, suc, ◌+◌, ◌-◌, ◌/◌, ◌%◌, ◌^◌, ◌≤◌, ◌<◌, max}
+use native.Mathlib.Nat.{add-zero, pow-suc, div-one, div-div-eq-div-mul}
 use native.Mathlib.Numerals.{add-one}
 use native.Mathlib.Omega.{arith}
 use native.Mathlib.Decide.{dec_le, dec_lt}
-use lib.ListN.{length, replicate, get_or, take, drop, set, length-append, length-set, length-drop, take-append-drop, get_or-append}
-use lib.Seq.{take-suc-set, drop-set-lt, length-take-le, take-append_seam, drop_at, get_or-take, get_or-drop, get_or-append-add}
+use lib.ListN.{length, replicate, get_or, take, drop, set, length-append, length-set, length-drop, length-replicate, take-append-drop, get_or-append}
+use borrow.Rule.Slice.PartMut.{put_mid}
+use lib.Seq.{drop-drop, take-suc-set, drop-set-lt, length-take-le, take-append_seam, drop_at, get_or-take, get_or-drop, get_or-append-add}
+use Rattle.std.specs.Int.{w64, to_le_bytes, bytes_low_first}
 use Rattle.exact.specs.Fixed.{bytes_of, little}
 use Rattle.exact.proofs.LawsChoice.{choose_yes, choose_no}
 use Rattle.exact.proofs.LawsFixed.{length-bytes_of, little-bytes_of}
@@ -29,6 +31,19 @@ module _ (out : List ℕ) (at : ℕ) (bs : List ℕ) where
   -- They have room or they have none.
   pub by-room : {X : Type 0} → (at + length bs ≤ length out → X) → (length out < at + length bs → X) → X
   by-room f g = elim (dec_le (at + length bs) (length out)) [ yes h ↦ f h | no h ↦ g (omega arith) ]
+
+-- What stands in a part of the output is put there.
+pub put_part : (out bs : List ℕ) (at k : ℕ) → k ≡ length bs → at + length bs ≤ length out → put_mid at k out bs ≡ put out at bs
+put_part out bs at k e h = rw (put-room out at bs h, e, drop-drop (length bs) at out)
+
+-- A part of n bytes that was filled is n times that byte, put there.
+pub put_filled : (out ys : List ℕ) (at n b : ℕ) {end m : ℕ} → ys ≡ replicate (length (take (end - at) (drop at out))) b →
+    n ≡ m → (at + n ≤ length out) × (end ≡ at + n) → put_mid at (end - at) out ys ≡ put out at (replicate m b)
+put_filled out ys at n b {end} {m} f e h =
+    let k : end - at ≡ n = omega arith in
+    let l : length (take n (drop at out)) ≡ n = length-take-le n (drop at out) (rw length-drop (omega arith)) in
+    let z : length (replicate m b) ≡ m = length-replicate m b in
+    rw (f, k, l, e) (put_part out (replicate m b) at m (sym z) (omega arith))
 
 -- No bytes change nothing.
 pub put-nil : (out : List ℕ) (at : ℕ) → put out at [] ≡ out
@@ -114,6 +129,30 @@ put_other out at bs i o =
 pub bytes_of-next : {n : ℕ} (m v : ℕ) → n ≡ suc m → bytes_of n v ≡ v % 256 ∷ bytes_of m (v / 256)
 unfolding bytes_of
 bytes_of-next m v e = rw e
+
+-- One digit of a number after i of them.
+next-digit : (i n : ℕ) → n / 256 ^ suc i ≡ n / 256 ^ i / 256
+next-digit i n = rw pow-suc (sym (div-div-eq-div-mul n (256 ^ i) 256))
+
+-- The library's bytes of a number, from the i-th on, are those of what stands above the ones before.
+low-bytes : (i k n : ℕ) → bytes_low_first i k n ≡ bytes_of k (n / 256 ^ i)
+unfolding bytes_of
+low-bytes i zero n = refl
+low-bytes zero (suc k) n =
+    let d : n / 1 ≡ n = div-one n in
+    rw d (ap (λ (bs : List ℕ). n % 256 ∷ bs) (low-bytes 1 k n))
+low-bytes (suc i) (suc k) n =
+    ap (λ (bs : List ℕ). n / 256 ^ suc i % 256 ∷ bs) (low-bytes (suc (suc i)) k n ∙ ap (bytes_of k) (next-digit (suc i) n))
+
+take-bytes_of : (w k n : ℕ) → w ≤ k → take w (bytes_of k n) ≡ bytes_of w n
+unfolding bytes_of
+take-bytes_of zero k n h = refl
+take-bytes_of (suc w) zero n h = absurd (omega arith)
+take-bytes_of (suc w) (suc k) n h = ap (λ (bs : List ℕ). n % 256 ∷ bs) (take-bytes_of w k (n / 256) (omega arith))
+
+-- The first of the library's bytes of a number are the bytes of its width.
+pub low-bytes-of : (w n : ℕ) → w ≤ 8 → take w (to_le_bytes w64 n) ≡ bytes_of w n
+low-bytes-of w n h = rw (low-bytes 0 8 n, div-one n) (take-bytes_of w 8 n h)
 
 -- One more byte of padding.
 pub replicate_next : {n : ℕ} (m b : ℕ) → n ≡ suc m → replicate n b ≡ b ∷ replicate m b

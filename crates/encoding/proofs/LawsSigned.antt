@@ -1,18 +1,16 @@
 -- Zigzag and bit patterns lose nothing, once over the width; and what the code's signed operations give. Assumes nothing.
-use mathlib.Core.Path.{◌≡◌, refl, sym, ap, ◌∙◌, subst}
+use mathlib.Core.Path.{◌≡◌, refl, sym, ap, ◌∙◌}
 use mathlib.Core.Logic.{◌↔◌}
-use mathlib.Core.Bool.{true, false}
 use Prim.Native.Nat.{ℕ, zero, suc, ◌+◌, ◌-◌, ◌*◌, ◌/◌, ◌%◌, ◌^◌, ◌≤◌, ◌<◌}
-use native.Mathlib.Nat.{pow-suc, one-le-pow}
+use native.Mathlib.Nat.{pow-suc}
 use native.Mathlib.Omega.{arith}
 use native.Mathlib.Decide.{dec_lt, ℕ_discrete}
-use lib.Dec.{T, ltb, lit≤}
-use lib.IntN.{ℤ, pos, negsuc, nat_abs}
-use lib.Signed.{mag, lt_z, non_neg}
-use borrow.Author.Tests.{lt-ltb, le-ltb, ltb-true}
+use lib.IntN.{ℤ, pos, negsuc}
+use lib.Signed.{mag}
+use borrow.Author.Tests.{lt-ltb, le-ltb}
 use mir.Syntax.{Width, w8, w16, w32, w64, w128}
-use mir.Val.{Fits, SFits, bits, hbits, of_z, to_z}
-use mir.Facts.{to_z-of_z}
+use mir.Val.{bits, hbits, of_z, to_z}
+use Rattle.std.proofs.lemmas.Int.{of_z-to_z}
 use Rattle.exact.proofs.LawsChoice.{choose_yes, choose_no}
 use Rattle.encoding.specs.Signed.{zigzag, unzigzag, pattern, signed}
 
@@ -127,68 +125,6 @@ to_z-signed w b =
       | no h ↦ to_neg w b (omega arith) ∙ sym (rw (less_one w) (choose_no (dec_lt b (2 ^ hbits w)) _ _ h))
     ]
 
--- What is written from the sign bit on, complemented twice, is the number that has that pattern.
-pub not-not-signed : (w : Width) (b : ℕ) → b < 2 ^ bits w →
-    to_z w (2 ^ bits w - 1 - (2 ^ bits w - 1 - b)) ≡ signed (bits w) b
-not-not-signed w b h =
-    let e : 2 ^ bits w - 1 - (2 ^ bits w - 1 - b) ≡ b = omega arith in
-    rw e (to_z-signed w b)
-
--- Its complement is below the sign bit.
-pub not-fits : (w : Width) (b : ℕ) → 2 ^ hbits w ≤ b → SFits w (pos (2 ^ bits w - 1 - b))
-not-fits w b h = record { sfits = omega (arith, double w, one-le-pow (hbits w) 2 (lit≤ tt)) }
-
--- A number that is a natural one is cast to it.
-casts : (w : Width) {x : ℤ} (n : ℕ) → n < 2 ^ hbits w → x ≡ pos n → T (non_neg x) × Fits w (nat_abs x)
-casts w n h e = rw e (tt, record { fits = omega (arith, double w) })
-
-ltb-zero : (n : ℕ) → ltb n 0 ≡ true → ⊥
-ltb-zero n e = let h = ltb-true n 0 e in omega arith
-
--- A signed number that the code has found to be below 0: its complement is how far below -1 it is.
-complement : (w : Width) (z : ℤ) → SFits w z → lt_z z (pos 0) ≡ true →
-    (to_z w (2 ^ bits w - 1 - of_z w z) ≡ pos (mag z)) × (z ≡ negsuc (mag z))
-complement w (pos n) f t = absurd (ltb-zero n t)
-complement w (negsuc n) f t =
-    let d = double w in
-    let h = f.sfits in
-    let e : 2 ^ bits w - 1 - (2 ^ bits w - suc n) ≡ n = omega arith in
-    (rw e (to_pos w n h), refl)
-
--- One that it has found not to be is a natural number.
-natural : (w : Width) (z : ℤ) → SFits w z → lt_z z (pos 0) ≡ false → (to_z w (of_z w z) ≡ pos (mag z)) × (z ≡ pos (mag z))
-natural w (pos n) f t = (to_pos w n f.sfits, refl)
-natural w (negsuc n) f t = let z : true ≡ false = t in absurd (subst T z tt)
-
-module _ (w : Width) (z : ℤ) (f : SFits w z) where
-  below : lt_z (to_z w (of_z w z)) (pos 0) ≡ true → (to_z w (2 ^ bits w - 1 - of_z w z) ≡ pos (mag z)) × (z ≡ negsuc (mag z))
-  below t = complement w z f (subst (λ (x : ℤ). lt_z x (pos 0) ≡ true) (to_z-of_z f) t)
-
-  above : lt_z (to_z w (of_z w z)) (pos 0) ≡ false → (to_z w (of_z w z) ≡ pos (mag z)) × (z ≡ pos (mag z))
-  above t = natural w z f (subst (λ (x : ℤ). lt_z x (pos 0) ≡ false) (to_z-of_z f) t)
-
-  -- The complement of a number below 0 is cast ..
-  pub below-casts : lt_z (to_z w (of_z w z)) (pos 0) ≡ true →
-      T (non_neg (to_z w (2 ^ bits w - 1 - of_z w z))) × Fits w (nat_abs (to_z w (2 ^ bits w - 1 - of_z w z)))
-  below-casts t = casts w (mag z) f.sfits (below t).0
-
-  -- .. and gives its pattern, complemented again, and its zigzag.
-  pub below-is : lt_z (to_z w (of_z w z)) (pos 0) ≡ true →
-      (nat_abs (to_z w (2 ^ bits w - 1 - of_z w z)) ≡ mag z) × (z ≡ negsuc (mag z))
-  below-is t = (ap nat_abs (below t).0, (below t).1)
-
-  pub below-pattern : lt_z (to_z w (of_z w z)) (pos 0) ≡ true →
-      2 ^ bits w - 1 - nat_abs (to_z w (2 ^ bits w - 1 - of_z w z)) ≡ pattern (bits w) z
-  below-pattern t = ap (λ (n : ℕ). 2 ^ bits w - 1 - n) (below-is t).0 ∙ sym (ap (pattern (bits w)) (below-is t).1)
-
-  -- A number from 0 on is cast ..
-  pub above-casts : lt_z (to_z w (of_z w z)) (pos 0) ≡ false →
-      T (non_neg (to_z w (of_z w z))) × Fits w (nat_abs (to_z w (of_z w z)))
-  above-casts t = casts w (mag z) f.sfits (above t).0
-
-  -- .. and is its own pattern.
-  pub above-is : lt_z (to_z w (of_z w z)) (pos 0) ≡ false → (nat_abs (to_z w (of_z w z)) ≡ mag z) × (z ≡ pos (mag z))
-  above-is t = (ap nat_abs (above t).0, (above t).1)
-
-  pub above-pattern : lt_z (to_z w (of_z w z)) (pos 0) ≡ false → nat_abs (to_z w (of_z w z)) ≡ pattern (bits w) z
-  above-pattern t = (above-is t).0 ∙ sym (ap (pattern (bits w)) (above-is t).1)
+-- So it does where the number is handed on.
+pub cast_back : (w : Width) (b : ℕ) (z : ℤ) → b < 2 ^ bits w → z ≡ to_z w b → to_z w (of_z w z) ≡ signed (bits w) b
+cast_back w b z h e = rw (e, of_z-to_z w b h) (to_z-signed w b)

@@ -2,11 +2,12 @@
 -- Assumes nothing.
 use mathlib.Core.Path.{◌≡◌, sym, ap, ◌∙◌, subst}
 use mathlib.Core.List.{List, [], ◌∷◌}
-use Prim.Native.Nat.{ℕ, zero, suc, ◌+◌, ◌*◌, ◌/◌, ◌%◌, ◌^◌, ◌≤◌, ◌<◌}
+use Prim.Native.Nat.{ℕ, zero, suc, ◌+◌, ◌-◌, ◌*◌, ◌/◌, ◌%◌, ◌^◌, ◌≤◌, ◌<◌}
 use native.Mathlib.Omega.{arith}
 use native.Mathlib.Decide.{dec_lt}
-use native.Mathlib.Nat.{pow-suc, one-le-pow, mod-eq_of_lt}
+use native.Mathlib.Nat.{pow-le-pow_right, pow-suc, one-le-pow, mod-eq_of_lt}
 use lib.ListN.{length}
+use Rattle.std.proofs.lemmas.Nat.{pow-add}
 use Rattle.exact.proofs.LawsChoice.{choose_yes, choose_no}
 use Rattle.encoding.specs.Varint.{Digits, tenth, last, more, Spells, shortest, spelling}
 
@@ -117,3 +118,38 @@ spelling-size-last v h = ap length (spelling-last v h)
 -- .. and another one has one more than that of the rest.
 pub spelling-size-more : (v : ℕ) → v < 2 ^ 64 → 128 ≤ v → length (spelling v) ≡ suc (length (spelling (v / 128)))
 spelling-size-more v h l = ap length (spelling-more v h l)
+
+-- Seven bits are below 128, and an eighth is not.
+below-seven : (k : ℕ) → 2 ^ k < 128 → k < 7
+below-seven k h =
+    elim (dec_lt k 7) [
+      | yes l ↦ l
+      | no l ↦ let p : 2 ^ 7 ≤ 2 ^ k = pow-le-pow_right {n = 2} (omega arith) {i = 7} {j = k} (omega arith) in absurd (omega arith)
+    ]
+
+from-seven : (k : ℕ) → 128 < 2 * 2 ^ k → 7 ≤ k
+from-seven k h =
+    elim (dec_lt k 7) [
+      | yes l ↦ let p : 2 ^ k ≤ 2 ^ 6 = pow-le-pow_right {n = 2} (omega arith) {i = k} {j = 6} (omega arith) in absurd (omega arith)
+      | no l ↦ omega arith
+    ]
+
+-- A number of k + 1 bits has a digit for each seven of them, and one for those left.
+shortest-log : (j k v : ℕ) → 2 ^ k ≤ v → v < 2 * 2 ^ k → k < 7 * suc j → length (shortest j v) ≡ k / 7 + 1
+unfolding shortest
+shortest-log zero k v l h m = omega arith
+shortest-log (suc j) k v l h m =
+    by-128 v
+    (λ s.
+    let f : k < 7 = below-seven k (omega arith) in
+    rw (shortest-last j v s) (omega arith))
+    (λ s.
+    let f : 7 ≤ k = from-seven k (omega arith) in
+    let n = k - 7 in
+    let a : k ≡ n + 7 = omega arith in
+    let e : 2 ^ k ≡ 2 ^ n * 2 ^ 7 = ap (λ (i : ℕ). 2 ^ i) a ∙ pow-add 2 n 7 in
+    rw (shortest-more j v s) (omega (arith, shortest-log j n (v / 128) (omega arith) (omega arith) (omega arith))))
+
+-- So the highest bit tells the size of a spelling.
+pub spelling-log : (k v : ℕ) → k < 64 → 2 ^ k ≤ v → v < 2 * 2 ^ k → length (spelling v) ≡ k / 7 + 1
+spelling-log k v b l h = shortest-log 9 k v l h (omega arith)

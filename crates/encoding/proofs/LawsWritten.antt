@@ -11,9 +11,10 @@ use Rattle.enums.specs.Container.{P}
 use Rattle.enums.specs.Refusals as refusals
 use Rattle.encoding.specs.Varint.{spelling}
 use Rattle.encoding.specs.Out.{Wrote, wrote, refused, put, flat, counted_bytes}
-use Rattle.encoding.specs.Shown.{asked, wrote_of, patched_of, Writes, Patches}
+use Rattle.encoding.specs.Shown.{asked, wrote_of, patched_of, Puts, Writes, Patches}
 use Rattle.encoding.specs.declared.EncodingWriter.{EncodingWriter}
-use Rattle.std.specs.Prelude.{Result, Ok, Err}
+use Rattle.std.specs.Prelude.{Result, Ok, Err, Option, None, Some, SomeIff}
+use Rattle.std.specs.Option.{ok_or}
 use Rattle.enums.specs.Numbered.{number_of}
 use Rattle.enums.specs.declared.Refusal.{Refusal}
 use Rattle.enums.specs.declared.Refusal.TheVariants as refusal
@@ -34,6 +35,20 @@ pub writes-full : (w : EncodingWriter) {bs out : List ℕ} (k : ℕ) → length 
     Writes w bs out out (Err refusal.Full)
 writes-full w k e h = puts-full refusals.full w.at w.required_alignment k e h
 
+-- Who found room for k bytes at a place, put them there and answers the place behind them ..
+pub puts-found : (f : Refusal) (at required k : ℕ) {bs out out' : List ℕ} {end : ℕ} → length bs ≡ k →
+    (at + k ≤ length out) × (end ≡ at + k) → out' ≡ put out at bs →
+    Puts (number_of f) at required bs out out' (wrote end required)
+puts-found f at required k e h p = rw h.1 (puts-room (number_of f) at required k e h.0 p)
+
+-- .. and who found none answers the refusal.
+pub puts-none : (f : Refusal) (at required k : ℕ) {bs out : List ℕ} {x : Refusal} (o : Option ℕ) → length bs ≡ k →
+    SomeIff o (at + k ≤ length out) (at + k) → Err x ≡ ok_or o f →
+    Puts (number_of f) at required bs out out (refused (number_of x))
+puts-none f at required k (Some v) e h q = absurd (cc)
+puts-none f at required k {x = x} None e h q =
+    let z : x ≡ f = (cc) in rw z (puts-full (number_of f) at required k e h)
+
 module _ {A : Type 0} (w : ℕ) (f : A → ℕ) (xs : List A) where
   -- A counted array has its count's length and its numbers' widths.
   pub length-counted : length (counted_bytes w (map f xs)) ≡ length (spelling (length xs)) + length xs * w
@@ -41,26 +56,14 @@ module _ {A : Type 0} (w : ℕ) (f : A → ℕ) (xs : List A) where
       let e = length-map xs f in
       rw (length-append, length-flat, e)
 
-  -- A writer that found room for an array, put its count and, behind it, its numbers ..
-  pub array-room : (v : EncodingWriter) {start : ℕ} {out mid out' : List ℕ} {r : Result EncodingWriter Refusal} →
-      v.at + (length (spelling (length xs)) + length xs * w) ≤ length out → start ≡ v.at + length (spelling (length xs)) →
-      mid ≡ put out v.at (spelling (length xs)) → out' ≡ put mid start (flat w (map f xs)) →
-      r ≡ Ok (record { at = start + length xs * w; required_alignment = v.required_alignment }) →
-      Writes v (counted_bytes w (map f xs)) out out' r
-  array-room v {start} {out} {mid} {out'} h s m o e =
+  -- Its count, and its numbers behind it, are the array.
+  pub array-put : (out : List ℕ) (at : ℕ) {start : ℕ} {mid out' : List ℕ} → at + (length (spelling (length xs)) + length xs * w) ≤ length out →
+      start ≡ at + length (spelling (length xs)) → mid ≡ put out at (spelling (length xs)) →
+      out' ≡ put mid start (flat w (map f xs)) → out' ≡ put out at (counted_bytes w (map f xs))
+  array-put out at h s m o =
       let n = length-map xs f in
       let l : length (flat w (map f xs)) ≡ length xs * w = length-flat w (map f xs) ∙ ap (λ (k : ℕ). k * w) n in
-      let p : start + length xs * w ≡ v.at + (length (spelling (length xs)) + length xs * w) = omega arith in
-      let a : put out v.at (counted_bytes w (map f xs)) ≡ put (put out v.at (spelling (length xs))) start (flat w (map f xs)) =
-      rw (n, s) (put-append (spelling (length xs)) (flat w (map f xs)) out v.at (omega arith)) in
-      writes-room v (length (spelling (length xs)) + length xs * w) length-counted h
-      (o ∙ ap (λ (k : List ℕ). put k start (flat w (map f xs))) m ∙ sym a)
-      (e ∙ ap (λ (k : ℕ). Ok (record { at = k; required_alignment = v.required_alignment })) p)
-
-  -- .. and one that found none.
-  pub array-full : (v : EncodingWriter) {out : List ℕ} → ¬ (v.at + (length (spelling (length xs)) + length xs * w) ≤ length out) →
-      Writes v (counted_bytes w (map f xs)) out out (Err refusal.Full)
-  array-full v h = writes-full v (length (spelling (length xs)) + length xs * w) length-counted h
+      rw (o, m, s, n) (sym (put-append (spelling (length xs)) (flat w (map f xs)) out at (omega arith)))
 
 -- An answer is known by what it means.
 abbrev back_written : Wrote → Result EncodingWriter Refusal

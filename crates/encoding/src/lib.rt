@@ -2,7 +2,8 @@
 // the bytes have room is judged before the first of them is written, so a refused call changes nothing.
 #![tactic(auto)]
 
-ghost use Rattle.std.specs.Prelude.{◌≡◌, [], ◌∷◌, map, ◌+◌, ◌*◌, ◌≤◌, ◌<◌, length, replicate};
+ghost use Rattle.std.proofs.Common.{rules};
+ghost use Rattle.std.specs.Prelude.{◌≡◌, [], ◌∷◌, map, ◌+◌, ◌*◌, ◌≤◌, ◌<◌, length, replicate, SomeIff, ℕ};
 ghost use Rattle.exact.specs.Fixed.{bytes_of};
 ghost use Rattle.exact.specs.Padding.{gap};
 ghost use Rattle.enums.specs.Container.{P};
@@ -39,41 +40,67 @@ pub type Patched = Result<usize, Refusal>;
 pub fn bits_of_i64(value: i64) -> u64
     ensures { result ≡ pattern 64 value }
 {
-    if value < 0 {
-        !((!value) as u64)
-    } else {
-        value as u64
-    }
+    value.cast_unsigned()
 }
 
 pub fn bits_of_i32(value: i32) -> u32
     ensures { result ≡ pattern 32 value }
 {
-    if value < 0 {
-        !((!value) as u32)
-    } else {
-        value as u32
-    }
+    value.cast_unsigned()
 }
 
 // The signed number that has these bits.
 pub fn i64_of_bits(bits: u64) -> i64
     ensures { result ≡ signed 64 bits }
 {
-    if bits < 0x8000_0000_0000_0000 {
-        bits as i64
-    } else {
-        !((!bits) as i64)
-    }
+    bits.cast_signed()
 }
 
 pub fn i32_of_bits(bits: u32) -> i32
     ensures { result ≡ signed 32 bits }
 {
-    if bits < 0x8000_0000 {
-        bits as i32
-    } else {
-        !((!bits) as i32)
+    bits.cast_signed()
+}
+
+// A signed number that an array holds: it is written by its bits, in a width of so many bytes.
+trait Item: Copy {
+    ghost WIDTH: { ℕ };
+
+    const WIDTH: usize;
+
+    ghost bits: { Self → ℕ };
+
+    fn bits(self) -> u64
+        ensures { result ≡ bits self };
+
+    ghost narrow: { WIDTH ≤ 8 };
+}
+
+impl Item for i64 {
+    ghost WIDTH = { 8 };
+
+    const WIDTH: usize = 8;
+
+    ghost bits = { pattern 64 };
+
+    ghost narrow = { Prim.search rules };
+
+    fn bits(self) -> u64 {
+        bits_of_i64(self)
+    }
+}
+
+impl Item for i32 {
+    ghost WIDTH = { 4 };
+
+    const WIDTH: usize = 4;
+
+    ghost bits = { pattern 32 };
+
+    ghost narrow = { Prim.search rules };
+
+    fn bits(self) -> u64 {
+        bits_of_i32(self) as u64
     }
 }
 
@@ -88,50 +115,38 @@ fn zigzag(value: i64) -> u64
     }
 }
 
-// Whether n bytes have room at a place of an output of len bytes. The place and n are never added: the sum could wrap.
-fn has_room(len: usize, at: usize, n: usize) -> bool
-    ensures { Tells (at + n ≤ len) result }
+// The place behind n bytes that are put at a place of an output of len bytes, if they have room there.
+fn end_of(len: usize, at: usize, n: usize) -> Option<usize>
+    ensures { SomeIff result (at + n ≤ len) (at + n) }
 {
-    if len < at {
-        return false;
-    }
-    n <= len - at
+    let end = at.checked_add(n)?;
+    (end <= len).then_some(end)
 }
 
-// How many bytes a varint takes.
+// How many bytes a varint takes: one for each seven bits. Most values are below 128: they take no look at their bits.
 fn varint_size(value: u64) -> usize
     ensures { result ≡ length (spelling value) }
 {
-    let mut rest = value;
-    let mut n = 1;
-    while 128 <= rest {
-        rest = rest / 128;
-        n += 1;
+    if value < 128 {
+        return 1;
     }
-    n
+    value.ilog2() as usize / 7 + 1
 }
 
 // Whether a varint has room; its size is counted only where ten bytes have none.
 fn varint_has_room(len: usize, at: usize, value: u64) -> bool
     ensures { Tells (at + length (spelling value) ≤ len) result }
 {
-    if has_room(len, at, 10) {
-        return true;
-    }
-    has_room(len, at, varint_size(value))
+    end_of(len, at, 10).is_some() || end_of(len, at, varint_size(value)).is_some()
 }
 
-// Whether a counted array has room: the count, then as many numbers of `width` bytes. Their size could wrap, so the room
-// behind the count is divided instead.
-fn array_has_room(len: usize, at: usize, count: usize, width: usize) -> bool
-    requires { 0 < width }
-    ensures { Tells (at + (length (spelling count) + count * width) ≤ len) result }
+// The place behind a counted array, if it has room: the count, then as many numbers of `width` bytes.
+fn array_end(len: usize, at: usize, count: usize, width: usize) -> Option<usize>
+    ensures { SomeIff result (at + (length (spelling count) + count * width) ≤ len) (at + (length (spelling count) + count * width)) }
 {
-    let head = varint_size(count as u64);
-    if has_room(len, at, head) {
-        return count <= (len - at - head) / width;
-    }
-    false
+    let size = count.checked_mul(width)?;
+    let start = end_of(len, at, varint_size(count as u64))?;
+    end_of(len, start, size)
 }
 
 // How many bytes of padding take a place to a multiple of an alignment.
@@ -143,18 +158,6 @@ fn padding_to(alignment: u64, at: usize) -> usize
     }
     let over = at as u64 % alignment;
     ((alignment - over) % alignment) as usize
-}
-
-// Stores a run of bytes.
-fn put_bytes(out: &mut [u8], at: usize, data: &[u8])
-    requires { at + length «data».now ≤ length out.old }
-    ensures { out.new ≡ put out.old at «data».now }
-{
-    let mut i = 0;
-    while i < data.len() {
-        out[at + i] = data[i];
-        i += 1;
-    }
 }
 
 // Stores a varint, and answers the place behind it. Most values are below 128 and take one byte: they take no loop.
@@ -180,51 +183,32 @@ fn put_varint(out: &mut [u8], at: usize, value: u64) -> usize
 
 // Stores the lowest `width` bytes of a number, the lowest first. Where the width is known it compiles to one store.
 fn put_le(out: &mut [u8], at: usize, value: u64, width: usize)
-    requires { at + width ≤ length out.old }
+    requires { (width ≤ 8) × (at + width ≤ length out.old) }
     ensures { out.new ≡ put out.old at (bytes_of width value) }
 {
-    let mut rest = value;
-    let mut i = 0;
-    while i < width {
-        out[at + i] = (rest % 256) as u8;
-        rest = rest / 256;
-        i += 1;
+    let bytes = value.to_le_bytes();
+    out[at..at + width].copy_from_slice(&bytes[..width]);
+}
+
+// Stores the numbers of an array, one behind the other.
+fn put_items<T: Item>(out: &mut [u8], at: usize, items: &[T])
+    requires { at + length items.now * T.WIDTH ≤ length out.old }
+    ensures { out.new ≡ put out.old at (flat T.WIDTH (map T.bits items.now)) }
+{
+    let mut next = at;
+    for item in items {
+        put_le(out, next, item.bits(), T::WIDTH);
+        next += T::WIDTH;
     }
 }
 
-// Stores 64-bit numbers, one behind the other.
-fn put_le_i64s(out: &mut [u8], at: usize, values: &[i64])
-    requires { at + length values.now * 8 ≤ length out.old }
-    ensures { out.new ≡ put out.old at (flat 8 (map (pattern 64) values.now)) }
+// Fills a run with a byte. The library's `fill` stores the last byte by itself; this compiles to one call that sets them
+// all.
+fn fill(run: &mut [u8], byte: u8)
+    ensures { run.new ≡ replicate (length run.old) byte }
 {
-    let mut i = 0;
-    while i < values.len() {
-        put_le(out, at + i * 8, bits_of_i64(values[i]), 8);
-        i += 1;
-    }
-}
-
-// Stores 32-bit numbers, one behind the other.
-fn put_le_i32s(out: &mut [u8], at: usize, values: &[i32])
-    requires { at + length values.now * 4 ≤ length out.old }
-    ensures { out.new ≡ put out.old at (flat 4 (map (pattern 32) values.now)) }
-{
-    let mut i = 0;
-    while i < values.len() {
-        put_le(out, at + i * 4, bits_of_i32(values[i]) as u64, 4);
-        i += 1;
-    }
-}
-
-// Stores a byte n times.
-fn put_repeated(out: &mut [u8], at: usize, n: usize, byte: u8)
-    requires { at + n ≤ length out.old }
-    ensures { out.new ≡ put out.old at (replicate n byte) }
-{
-    let mut i = 0;
-    while i < n {
-        out[at + i] = byte;
-        i += 1;
+    for place in run {
+        *place = byte;
     }
 }
 
@@ -232,8 +216,8 @@ fn put_repeated(out: &mut [u8], at: usize, n: usize, byte: u8)
 pub fn clear(out: &mut [u8], at: usize, n: usize)
     ensures { out.new ≡ put out.old at (replicate n 0) }
 {
-    if has_room(out.len(), at, n) {
-        put_repeated(out, at, n, 0);
+    if let Some(end) = end_of(out.len(), at, n) {
+        fill(&mut out[at..end], 0);
     }
 }
 
@@ -251,32 +235,23 @@ impl EncodingWriter {
     fn moved(self, at: usize) -> Self
         ensures { result ≡ record { at = at; required_alignment = self.required_alignment } }
     {
-        Self {
-            at,
-            required_alignment: self.required_alignment,
-        }
+        Self { at, ..self }
     }
 
     pub fn write_byte(self, out: &mut [u8], b: u8) -> Written
         ensures { Writes self (b ∷ []) out.old out.new result }
     {
-        let at = self.at;
-        if has_room(out.len(), at, 1) {
-            out[at] = b;
-            return Ok(self.moved(at + 1));
-        }
-        Err(Refusal::Full)
+        let end = end_of(out.len(), self.at, 1).ok_or(Refusal::Full)?;
+        out[self.at] = b;
+        Ok(self.moved(end))
     }
 
     pub fn write_bytes(self, out: &mut [u8], data: &[u8]) -> Written
         ensures { Writes self «data».now out.old out.new result }
     {
-        let at = self.at;
-        if has_room(out.len(), at, data.len()) {
-            put_bytes(out, at, data);
-            return Ok(self.moved(at + data.len()));
-        }
-        Err(Refusal::Full)
+        let end = end_of(out.len(), self.at, data.len()).ok_or(Refusal::Full)?;
+        out[self.at..end].copy_from_slice(data);
+        Ok(self.moved(end))
     }
 
     // Write an unsigned variable-length integer (LEB128-style, 7 bits per byte, high bit = continuation). One below 128
@@ -287,9 +262,8 @@ impl EncodingWriter {
         if value < 128 {
             return self.write_byte(out, value as u8);
         }
-        let at = self.at;
-        if varint_has_room(out.len(), at, value) {
-            let next = put_varint(out, at, value);
+        if varint_has_room(out.len(), self.at, value) {
+            let next = put_varint(out, self.at, value);
             return Ok(self.moved(next));
         }
         Err(Refusal::Full)
@@ -304,14 +278,12 @@ impl EncodingWriter {
 
     // Write the lowest `width` bytes of a number, the lowest first.
     fn write_le(self, out: &mut [u8], value: u64, width: usize) -> Written
+        requires { width ≤ 8 }
         ensures { Writes self (bytes_of width value) out.old out.new result }
     {
-        let at = self.at;
-        if has_room(out.len(), at, width) {
-            put_le(out, at, value, width);
-            return Ok(self.moved(at + width));
-        }
-        Err(Refusal::Full)
+        let end = end_of(out.len(), self.at, width).ok_or(Refusal::Full)?;
+        put_le(out, self.at, value, width);
+        Ok(self.moved(end))
     }
 
     pub fn write_le_u8(self, out: &mut [u8], value: u8) -> Written
@@ -379,41 +351,34 @@ impl EncodingWriter {
     pub fn write_le_var_size_i64(self, out: &mut [u8], values: &[i64]) -> Written
         ensures { Writes self (counted_bytes 8 (map (pattern 64) values.now)) out.old out.new result }
     {
-        let at = self.at;
-        let count = values.len();
-        if array_has_room(out.len(), at, count, 8) {
-            let start = put_varint(out, at, count as u64);
-            put_le_i64s(out, start, values);
-            return Ok(self.moved(start + count * 8));
-        }
-        Err(Refusal::Full)
+        self.write_items(out, values)
     }
 
     // Write `count` as a varint, then the values as little-endian i32.
     pub fn write_le_var_size_i32(self, out: &mut [u8], values: &[i32]) -> Written
         ensures { Writes self (counted_bytes 4 (map (pattern 32) values.now)) out.old out.new result }
     {
-        let at = self.at;
-        let count = values.len();
-        if array_has_room(out.len(), at, count, 4) {
-            let start = put_varint(out, at, count as u64);
-            put_le_i32s(out, start, values);
-            return Ok(self.moved(start + count * 4));
-        }
-        Err(Refusal::Full)
+        self.write_items(out, values)
+    }
+
+    // Write the number of items as a varint, then the items.
+    fn write_items<T: Item>(self, out: &mut [u8], items: &[T]) -> Written
+        ensures { Writes self (counted_bytes T.WIDTH (map T.bits items.now)) out.old out.new result }
+    {
+        let end = array_end(out.len(), self.at, items.len(), T::WIDTH).ok_or(Refusal::Full)?;
+        let start = put_varint(out, self.at, items.len() as u64);
+        put_items(out, start, items);
+        Ok(self.moved(end))
     }
 
     // Pad the output so that the next place is aligned to `alignment`.
     pub fn align_to(self, out: &mut [u8], alignment: u64) -> Written
         ensures { Writes (asked self alignment) (replicate (gap alignment self.at) P) out.old out.new result }
     {
-        let at = self.at;
-        let padding = padding_to(alignment, at);
-        if has_room(out.len(), at, padding) {
-            put_repeated(out, at, padding, enums::ALIGNMENT_BYTE);
-            return Ok(self.asked(alignment).moved(at + padding));
-        }
-        Err(Refusal::Full)
+        let padding = padding_to(alignment, self.at);
+        let end = end_of(out.len(), self.at, padding).ok_or(Refusal::Full)?;
+        fill(&mut out[self.at..end], enums::ALIGNMENT_BYTE);
+        Ok(self.asked(alignment).moved(end))
     }
 
     pub fn tell(self) -> usize
@@ -435,25 +400,21 @@ impl EncodingWriter {
         if alignment < 2 {
             return self;
         }
-        if self.required_alignment < alignment {
-            return Self {
-                at: self.at,
-                required_alignment: alignment,
-            };
+        Self {
+            required_alignment: self.required_alignment.max(alignment),
+            ..self
         }
-        self
     }
 }
 
 // Patch the lowest `width` bytes of a number into the buffer, the lowest first.
 fn patch_le(buf: &mut [u8], offset: usize, value: u64, width: usize) -> Patched
+    requires { width ≤ 8 }
     ensures { Patches offset (bytes_of width value) buf.old buf.new result }
 {
-    if has_room(buf.len(), offset, width) {
-        put_le(buf, offset, value, width);
-        return Ok(offset + width);
-    }
-    Err(Refusal::Absent)
+    let end = end_of(buf.len(), offset, width).ok_or(Refusal::Absent)?;
+    put_le(buf, offset, value, width);
+    Ok(end)
 }
 
 // Patch a `u32` value at `offset` in the buffer (little-endian).

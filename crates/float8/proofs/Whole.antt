@@ -1,8 +1,7 @@
 -- The whole code, from its sign and the nearest code, or NaN's: for up to 8 exponent and 23 mantissa bits, and for the
--- 8-bit formats in either style. Assumes nothing.
+-- 8-bit formats. Assumes nothing.
 use mathlib.Core.Path.{◌≡◌, sym, ap, subst, ◌∙◌}
 use mathlib.Core.Logic.{inr}
-use mathlib.Core.Bool.{Bool, true, false}
 use Prim.Native.Nat.{ℕ, ◌+◌, ◌-◌, ◌*◌, ◌/◌, ◌%◌, ◌^◌, ◌≤◌, ◌<◌}
 use native.Mathlib.Nat.{le_trans, mul-one}
 use native.Mathlib.Omega.{arith}
@@ -10,7 +9,7 @@ use lib.Pow.{pow_mono, pow-add, high_ones}
 use Rattle.float8.specs.Magnitude.{bias, steps, place, magnitude_by, magnitude, magnitude64, infinity64}
 use Rattle.float8.specs.Nearest.{Nearest}
 use Rattle.float8.specs.Formats.{Converted}
-use Rattle.float8.specs.Inner.{EightBits, InStyle, Narrow, overflow_code}
+use Rattle.float8.specs.Inner.{EightBits, Narrow}
 use Rattle.float8.proofs.Neighbours.{grow, overflow}
 use Rattle.float8.proofs.Steps.{value, wide, wide-grows}
 use Rattle.float8.proofs.Narrowing.{zero-nearest}
@@ -68,7 +67,7 @@ module _ (e m : ℕ) (exponent : e ≤ 8) (mantissa : m ≤ 23) where
         }
 
 -- the 8-bit formats
-module _ {e m b : ℕ} (eight : EightBits e m b) where
+module _ {e m b o : ℕ} (eight : EightBits e m b o) where
   exponent : e ≤ 8
   exponent = let s = eight.seven in omega arith
 
@@ -81,24 +80,15 @@ module _ {e m b : ℕ} (eight : EightBits e m b) where
   pub narrow : Narrow b m
   narrow = rw eight.biased (narrow-widths e m exponent mantissa eight.mantissa)
 
-  pub overflow-room : (ones : Bool) → overflow_code ones e m < 127
-  overflow-room true = let s = sized in omega arith
-  overflow-room false =
-      let s = sized in
-      let p : 2 ^ 1 ≤ 2 ^ m = pow_mono {i = 1} {j = m} eight.mantissa in
-      omega (arith, high_ones e m)
-
-  module _ (ones : Bool) {o : ℕ} (top : o ≡ overflow_code ones e m) (bits r : ℕ) (sign : r / 128 ≡ bits / 2 ^ 63) where
-    pub eight-nan : infinity64 < bits % 2 ^ 63 → r % 128 ≡ o + 1 → InStyle ones e m bits r
-    eight-nan l is =
-        of_nan e m exponent mantissa 128 (overflow_code ones e m) (overflow_code ones e m + 1) bits r sized sign l (omega arith)
+  module _ (bits r : ℕ) (sign : r / 128 ≡ bits / 2 ^ 63) where
+    pub eight-nan : infinity64 < bits % 2 ^ 63 → r % 128 ≡ o + 1 → Converted e m o (o + 1) bits r
+    eight-nan l is = of_nan e m exponent mantissa 128 o (o + 1) bits r sized sign l is
 
     pub eight-number : {c : ℕ} → bits % 2 ^ 63 ≤ infinity64 → r % 128 ≡ c
-        → Nearest (magnitude_by b m) o (magnitude64 (bits % 2 ^ 63)) c → InStyle ones e m bits r
+        → Nearest (magnitude_by b m) o (magnitude64 (bits % 2 ^ 63)) c → Converted e m o (o + 1) bits r
     eight-number {c} l is near =
-        let room = overflow-room ones in
-        of_number e m exponent mantissa 128 (overflow_code ones e m) (overflow_code ones e m + 1) bits r sized sign (omega arith) l
-        (rw (is, ← top, ← eight.biased) near)
+        let room = eight.room in
+        of_number e m exponent mantissa 128 o (o + 1) bits r sized sign (omega arith) l (rw (is, ← eight.biased) near)
 
-    pub eight-zero : bits % 2 ^ 63 ≡ 0 → r % 128 ≡ 0 → InStyle ones e m bits r
+    pub eight-zero : bits % 2 ^ 63 ≡ 0 → r % 128 ≡ 0 → Converted e m o (o + 1) bits r
     eight-zero z is = eight-number (omega arith) is (rw z (zero-nearest b m o))

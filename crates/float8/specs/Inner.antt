@@ -1,22 +1,14 @@
 -- What the private functions ask for and answer. No public contract cites these.
-use Rattle.std.specs.Prelude.{ℕ, ◌+◌, ◌-◌, ◌*◌, ◌%◌, ◌^◌, ◌≤◌, ◌<◌, ◌≡◌, Bool, cond}
-use Rattle.float8.specs.Magnitude.{bias, infinity}
-use Rattle.float8.specs.Formats.{Converted}
+use Rattle.std.specs.Prelude.{ℕ, ◌+◌, ◌*◌, ◌%◌, ◌≤◌, ◌<◌, ◌≡◌}
+use Rattle.float8.specs.Magnitude.{bias}
 
--- the widths of an 8-bit format, with the bias that they have
-pub record EightBits (e m b : ℕ) : Type 0 where
+-- the widths of an 8-bit format, with the bias that they have, and room for NaN's code after the one that overflow gives
+pub record EightBits (e m b overflow : ℕ) : Type 0 where
   pub exponent : 1 < e
   pub mantissa : 0 < m
   pub seven : e + m ≡ 7
   pub biased : b ≡ bias e
-
--- what overflow gives: the code below all ones where only these are NaN, else infinity's
-abbrev pub overflow_code : Bool → ℕ → ℕ → ℕ
-overflow_code only-all-ones e m = cond only-all-ones (2 ^ (e + m) - 2) (infinity e m)
-
--- a format in either style: NaN's code is the one after what overflow gives
-abbrev pub InStyle : Bool → ℕ → ℕ → ℕ → ℕ → Type 0
-InStyle only-all-ones e m = Converted e m (overflow_code only-all-ones e m) (overflow_code only-all-ones e m + 1)
+  pub room : overflow < 127
 
 -- the widths that the rounding serves: up to 8 exponent and 23 mantissa bits, those of an F32
 pub record Narrow (bias m : ℕ) : Type 0 where

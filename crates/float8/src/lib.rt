@@ -1,11 +1,11 @@
 // Eight-bit floats from the 64 bits of an f64: "F8 float conversion" of encoding.rs.
 #![tactic(auto)]
 
-ghost use Rattle.std.specs.Prelude.{◌≡◌, ◌+◌, ◌/◌, ◌%◌, ◌^◌, ◌<◌, min, max};
+ghost use Rattle.std.specs.Prelude.{ℕ, ◌≡◌, ◌+◌, ◌/◌, ◌%◌, ◌^◌, ◌<◌};
 ghost use Rattle.float8.specs.Magnitude.{magnitude_by, magnitude64};
 ghost use Rattle.float8.specs.Nearest.{Nearest};
-ghost use Rattle.float8.specs.Formats.{E4M3FN, E5M2};
-ghost use Rattle.float8.specs.Inner.{EightBits, InStyle, Narrow, Rounded, overflow_code};
+ghost use Rattle.float8.specs.Formats.{Converted, E4M3FN, E5M2};
+ghost use Rattle.float8.specs.Inner.{EightBits, Narrow, Rounded};
 
 // An f64: its sign bit, its infinity, its mantissa width, the 1 that is implied above the mantissa, and its bias.
 const F64_SIGN: u64 = 0x8000_0000_0000_0000;
@@ -18,83 +18,102 @@ const F64_IMPLIED: u64 = 0x10_0000_0000_0000;
 
 const F64_BIAS: u64 = 1023;
 
-// sign:1, exp:4, man:3. No infinities: only all ones are NaN.
+// An 8-bit format: its exponent and mantissa bits, its bias, and the code that overflow and infinity give without the
+// sign. NaN's code is the one after it.
+pub trait Format {
+    ghost EXP_BITS: { ℕ };
+
+    ghost MAN_BITS: { ℕ };
+
+    ghost BIAS: { ℕ };
+
+    ghost OVERFLOW: { ℕ };
+
+    const EXP_BITS: u64;
+
+    const MAN_BITS: u64;
+
+    const BIAS: u64;
+
+    const OVERFLOW: u64;
+}
+
+// sign:1, exp:4, man:3. No infinities: only all ones are NaN, and overflow gives the largest number.
 #[derive(Clone, Copy)]
 pub struct F8E4M3FN {}
 
-impl F8E4M3FN {
-    pub const EXP_BITS: u64 = 4;
+impl Format for F8E4M3FN {
+    ghost EXP_BITS = { 4 };
 
-    pub const MAN_BITS: u64 = 3;
+    ghost MAN_BITS = { 3 };
 
-    pub const BIAS: u64 = 7;
+    ghost BIAS = { 7 };
+
+    ghost OVERFLOW = { 0x7E };
+
+    const EXP_BITS: u64 = 4;
+
+    const MAN_BITS: u64 = 3;
+
+    const BIAS: u64 = 7;
+
+    const OVERFLOW: u64 = 0x7E;
 }
 
-// sign:1, exp:5, man:2. IEEE-like, with infinities.
+// sign:1, exp:5, man:2. IEEE-like: overflow gives infinity.
 #[derive(Clone, Copy)]
 pub struct F8E5M2 {}
 
-impl F8E5M2 {
-    pub const EXP_BITS: u64 = 5;
+impl Format for F8E5M2 {
+    ghost EXP_BITS = { 5 };
 
-    pub const MAN_BITS: u64 = 2;
+    ghost MAN_BITS = { 2 };
 
-    pub const BIAS: u64 = 15;
+    ghost BIAS = { 15 };
+
+    ghost OVERFLOW = { 0x7C };
+
+    const EXP_BITS: u64 = 5;
+
+    const MAN_BITS: u64 = 2;
+
+    const BIAS: u64 = 15;
+
+    const OVERFLOW: u64 = 0x7C;
 }
 
 // Convert f64 to F8E4M3FN bit pattern. NaN maps to 7F, infinities and overflow to 7E, with the sign.
 pub fn f64_to_f8e4m3fn(bits: u64) -> u8
     ensures { E4M3FN bits result }
 {
-    convert_to_f8(
-        bits,
-        F8E4M3FN::EXP_BITS,
-        F8E4M3FN::MAN_BITS,
-        F8E4M3FN::BIAS,
-        true,
-    )
+    convert_to_f8::<F8E4M3FN>(bits)
 }
 
 // Convert f64 to F8E5M2 bit pattern. NaN maps to 7D, infinities and overflow to 7C, with the sign.
 pub fn f64_to_f8e5m2(bits: u64) -> u8
     ensures { E5M2 bits result }
 {
-    convert_to_f8(
-        bits,
-        F8E5M2::EXP_BITS,
-        F8E5M2::MAN_BITS,
-        F8E5M2::BIAS,
-        false,
-    )
+    convert_to_f8::<F8E5M2>(bits)
 }
 
-// Generic f64 to 8-bit float conversion. `nan_only_all_ones`: NaN is all ones and there are no infinities (F8E4M3FN
-// style); else IEEE style (F8E5M2). In both, NaN's code is the one after what overflow gives.
-fn convert_to_f8(bits: u64, exp_bits: u64, man_bits: u64, bias: u64, nan_only_all_ones: bool) -> u8
-    requires { EightBits exp_bits man_bits bias }
-    ensures { InStyle nan_only_all_ones exp_bits man_bits bits result }
+// Generic f64 to 8-bit float conversion.
+fn convert_to_f8<F: Format>(bits: u64) -> u8
+    requires { EightBits F.EXP_BITS F.MAN_BITS F.BIAS F.OVERFLOW }
+    ensures { Converted F.EXP_BITS F.MAN_BITS F.OVERFLOW (F.OVERFLOW + 1) bits result }
 {
     let sign = bits / F64_SIGN;
     let magnitude = bits % F64_SIGN;
-    let overflow = overflow_code(exp_bits, man_bits, nan_only_all_ones);
+    let overflow = F::OVERFLOW;
     if F64_INFINITY < magnitude {
         return with_sign(sign, overflow + 1);
     }
     if magnitude == 0 {
         return with_sign(sign, 0);
     }
-    with_sign(sign, nearest_code(magnitude, man_bits, bias, overflow))
-}
-
-// What overflow gives: the largest number, below all ones, or else infinity.
-fn overflow_code(exp_bits: u64, man_bits: u64, nan_only_all_ones: bool) -> u64
-    requires { exp_bits + man_bits ≡ 7 }
-    ensures { result ≡ overflow_code nan_only_all_ones exp_bits man_bits }
-{
-    if nan_only_all_ones {
-        return pow2(exp_bits + man_bits) - 2;
-    }
-    (pow2(exp_bits) - 1) * pow2(man_bits)
+    with_sign(
+        sign,
+        nearest_code(magnitude, F::MAN_BITS, F::BIAS, overflow),
+    )
 }
 
 // A code of seven bits under its sign.
@@ -114,16 +133,13 @@ fn nearest_code(magnitude: u64, man_bits: u64, bias: u64, top: u64) -> u64
     ensures { Nearest (magnitude_by bias man_bits) top (magnitude64 magnitude) result }
 {
     let least_normal = F64_BIAS + 1 - bias;
-    let held = max_of(magnitude, (least_normal - man_bits - 2) * F64_IMPLIED);
+    let held = magnitude.max((least_normal - man_bits - 2) * F64_IMPLIED);
     let exponent = held / F64_IMPLIED;
     let significand = held % F64_IMPLIED + F64_IMPLIED;
-    let target_exp = max_of(exponent, least_normal);
+    let target_exp = exponent.max(least_normal);
     let shift = F64_MAN_BITS - man_bits + (target_exp - exponent);
     let binades = (target_exp - least_normal) * F64_IMPLIED;
-    min_of(
-        round_shift_right_ties_even(binades + significand, shift),
-        top,
-    )
+    round_shift_right_ties_even(binades + significand, shift).min(top)
 }
 
 // value / 2^shift. Half of 2^shift, less one where the quotient is even, carries into it where it is to be rounded up.
@@ -142,24 +158,4 @@ fn pow2(exponent: u64) -> u64
     ensures { result ≡ 2 ^ exponent }
 {
     1u64 << exponent
-}
-
-// The larger.
-fn max_of(a: u64, b: u64) -> u64
-    ensures { result ≡ max a b }
-{
-    if a < b {
-        return b;
-    }
-    a
-}
-
-// The smaller.
-fn min_of(a: u64, b: u64) -> u64
-    ensures { result ≡ min a b }
-{
-    if a < b {
-        return a;
-    }
-    b
 }

@@ -2,19 +2,19 @@
 -- nothing.
 use mathlib.Core.Path.{◌≡◌, sym, ap, subst, ◌∙◌}
 use mathlib.Core.Logic.{inl, inr, ⊎_elim}
-use Prim.Native.Nat.{ℕ, ◌+◌, ◌-◌, ◌≤◌, ◌<◌}
+use Prim.Native.Nat.{ℕ, ◌+◌, ◌≤◌, ◌<◌}
 use native.Mathlib.Omega.{arith}
 use native.Mathlib.Decide.{ℕ_discrete, dec_lt}
-use mathlib.Core.Bool.{Bool, true, false, true≢false}
+use mathlib.Core.Bool.{Bool, true}
 use mathlib.Core.List.{List}
 use lib.ListN.{length, get_or, set, replicate, length-set, length-replicate, get_or-replicate}
 use lib.Seq.{get_or-set_same, get_or-set_other}
 use lib.Dec.{eqb}
 use Rattle.encoding.specs.Out.{Tells}
-use Rattle.slots.specs.Lent.{instance_at, length_at, mark_at, Taken, Rows, Once}
+use Rattle.slots.specs.Lent.{instance_at, length_at, Taken, Rows, Once}
 use Rattle.owners.specs.Owners.{RowOf, FirstRow}
-use Rattle.owners.specs.Notes.{bucket_of, second_of, Noted, Notes, NewRow, SoFar, Turn}
-use Rattle.owners.proofs.LawsOwners.{tells-equal, first-here, rows-free, rows_taken, not-fitting}
+use Rattle.owners.specs.Notes.{bucket_of, second_of, Noted, Notes, SoFar, Turn}
+use Rattle.owners.proofs.LawsOwners.{tells-equal, first-here, rows_taken}
 
 module _ (notes : List ℕ) (c v : ℕ) (h : c < length notes) (e : get_or notes c 0 < 128) where
   -- Where an empty place is filled, a full one is as it was ..
@@ -84,28 +84,7 @@ module _ {owners notes : List ℕ} {k : ℕ} (x : Notes owners notes k) where
         (subst (λ j. Noted (set notes b v) j k) (sym q) (record { full = omega (arith, s); told = λ h. inl (s ∙ w h) }))
 
     module _ (f : 128 ≤ get_or notes (bucket_of i) 0) where
-      -- .. and where it is full, with the second empty, so if the row that the first one tells is another's ..
-      pub second-new : k < 128 → get_or notes (second_of i) 0 < 128 → ¬ RowOf i owners (get_or notes (bucket_of i) 0 - 128) →
-          (l : ℕ) → l < k → ¬ RowOf i owners l
-      second-new m e other l h (t, q) =
-          ⊎_elim (λ p. let r : l ≡ get_or notes (bucket_of i) 0 - 128 = omega (arith, p) in
-          other (subst (RowOf i owners) r (t, q))) (λ g. omega (arith, e, g))
-          ((subst (λ j. Noted notes j l) q (x.each l h t)).told (omega arith))
-
-      pub second-old : RowOf i owners (get_or notes (bucket_of i) 0 - 128) → ¬ ((l : ℕ) → l < k → ¬ RowOf i owners l)
-      second-old p none = none (get_or notes (bucket_of i) 0 - 128) (omega (arith, x.before (bucket_of i) (omega arith))) p
-
-      pub second-noted : (b v : ℕ) → b ≡ second_of i → get_or notes b 0 < 128 → 128 ≤ v → v < 128 + (k + 1) → instance_at owners k ≡ i →
-          Notes owners (set notes b v) (k + 1)
-      second-noted b v p e g m q =
-          let inside : b < length notes = omega (arith, x.size, p) in
-          let s : get_or (set notes b v) (second_of i) 0 ≡ v =
-          ap (λ j. get_or (set notes b v) j 0) (sym p) ∙ get_or-set_same notes b v 0 inside in
-          let t = kept notes b v inside e (bucket_of i) f in
-          filled b v (omega (arith, p)) e m
-          (subst (λ j. Noted (set notes b v) j k) (sym q) (record { full = omega (arith, t); told = λ h. inr (omega (arith, s)) }))
-
-      -- .. and with both full nothing is noted.
+      -- .. and where both are full nothing is noted.
       pub both-full : (k < 128 → 128 ≤ get_or notes (second_of i) 0) → instance_at owners k ≡ i → Notes owners notes (k + 1)
       both-full g q =
           unnoted (λ t. subst (λ j. Noted notes j k) (sym q) (record { full = f; told = λ h. inr (g h) }))
@@ -134,30 +113,6 @@ module _ {z k : ℕ} {owners notes : List ℕ} (x : SoFar z owners notes k) wher
       record {
         rows = rows_taken x.rows fit (subst (λ j. (l : ℕ) → l < k → ¬ RowOf j owners l) e (first-new x.noted i empty));
         noted = subst (λ n. Notes owners n (k + 1)) (sym g) (first-noted x.noted i b v p h f m w (sym e));
-      }
-
-  -- The turn of any other: of a free one ..
-  pub free-turn : mark_at owners k ≡ 0 → Turn z owners k notes true
-  free-turn m =
-      record {
-        good = λ _. record { rows = rows-free x.rows m; noted = unnoted x.noted (λ t. absurd (omega arith)) };
-        bad = λ f. absurd (true≢false f);
-      }
-
-  -- .. of a taken one that does not fit ..
-  pub long-turn : Taken owners k → z < length_at owners k → Turn z owners k notes false
-  long-turn t l = record { good = λ f. absurd (true≢false (sym f)); bad = λ _. not-fitting (omega arith) t l }
-
-  -- .. and of one that fits, as its instance is new or not.
-  pub taken-turn : {i : ℕ} {notes' : List ℕ} {t : Bool} → i ≡ instance_at owners k → Taken owners k → length_at owners k ≤ z →
-      NewRow owners k i notes' t → Turn z owners k notes' t
-  taken-turn e taken fit y =
-      record {
-        good = λ h. record {
-          rows = rows_taken x.rows fit (subst (λ j. (l : ℕ) → l < k → ¬ RowOf j owners l) e (y.told.holds h));
-          noted = y.after (sym e);
-        };
-        bad = λ f good. y.told.fails f (λ l b p. good.once l k b (omega arith) p.0 taken (p.1 ∙ e));
       }
 
   -- At the end they are all.

@@ -1,23 +1,14 @@
 -- `patch_le` patches a number, once over the width. Assumes nothing.
-use native.Mathlib.Omega.{arith}
+use Rattle.std.proofs.lemmas.Result.{err_from_is_err_and}
+use Rattle.enums.specs.declared.Refusal.TheVariants.{Absent}
 use Rattle.exact.proofs.LawsFixed.{length-bytes_of}
-use Rattle.enums.specs.Refusals.{not_there}
-use Rattle.encoding.proofs.LawsOut.{puts-room, puts-full}
+use Rattle.encoding.proofs.LawsWritten.{puts-found, puts-none}
 use Rattle.encoding.proofs.patch_le.Goals as goal
 
-pub put_le-requires : goal.put_le-requires
-put_le-requires c = c.has_room.ensures.holds c.if-has_room.true
-
-pub overflow_add-result : goal.overflow_add-result
-overflow_add-result c = omega (arith, c.has_room.ensures.holds c.if-has_room.true)
-
-pub returns-then-has_room : goal.returns-then-has_room
-returns-then-has_room c =
-    let h = c.has_room.ensures.holds c.if-has_room.true in
-    let at = c.args.offset in
-    puts-room not_there at 1 _ (length-bytes_of _ _) h c.put_le.ensures
+pub returns-in_err-end : goal.returns-in_err-end
+returns-in_err-end c =
+    let p = err_from_is_err_and c.from_residual.result c.from_residual.ensures.1 in
+    rw (p.1, p.2) (puts-none Absent _ _ _ _ (length-bytes_of _ _) c.end_of.ensures c.in_err-end.ensures.value)
 
 pub returns : goal.returns
-returns c =
-    let at = c.args.offset in
-    puts-full not_there at 1 _ (length-bytes_of _ _) (c.has_room.ensures.fails c.if-has_room.false)
+returns c = puts-found Absent _ _ _ (length-bytes_of _ _) (rw c.in_ok-end.ensures.ok_part at c.end_of.ensures) c.put_le.ensures

@@ -12,9 +12,6 @@ use Rattle.encoding.proofs.EncodingWriter.write_varint.Goals as goal
 pub returns-then-value-lt128 : goal.returns-then-value-lt128
 returns-then-value-lt128 c = puts-as (sym (spelling-last _ c.if-value-lt128.true)) c.write_byte.ensures
 
-pub put_varint-next-requires : goal.put_varint-next-requires
-put_varint-next-requires c = c.varint_has_room.ensures.holds c.if-varint_has_room.true
-
 pub returns-then-varint_has_room : goal.returns-then-varint_has_room
 returns-then-varint_has_room c =
     let w = c.args.self in
