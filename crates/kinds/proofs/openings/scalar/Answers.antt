@@ -2,20 +2,14 @@
 use Rattle.std.proofs.Common.{sym, ap, ◌∙◌, arith}
 use Rattle.format.specs.Names.{scalar_names, name_of_tag}
 use Rattle.text.proofs.LawsText.{put_as, put-nothing}
-use Rattle.kinds.proofs.LawsScalars.{starts-rise, name-cut, last-cut, no_name}
+use Rattle.kinds.proofs.LawsScalars.{name-cut, last-cut, no_name}
 use Rattle.kinds.proofs.openings.scalar.Goals as goal
-
-pub part-requires : goal.part-requires
-part-requires c = starts-rise 23 (omega arith)
 
 pub returns-then-tag : goal.returns-then-tag
 returns-then-tag c = put_as (last-cut ∙ ap (name_of_tag scalar_names) (sym c.if-tag.true)) c.part.ensures
 
 pub returns-then-tag-gt22 : goal.returns-then-tag-gt22
 returns-then-tag-gt22 c = put_as (no_name _ c.if-tag-gt22.true c.if-tag.false) put-nothing
-
-pub part-requires-2 : goal.part-requires-2
-part-requires-2 c = starts-rise c.args.tag (let h = c.if-tag-gt22.false in omega (arith, h))
 
 pub returns : goal.returns
 returns c = put_as (name-cut c.args.tag (let h = c.if-tag-gt22.false in omega (arith, h))) c.part-2.ensures
