@@ -29,9 +29,8 @@ use Rattle.judge.specs.declared.Judged.{Judged}
 use Rattle.std.specs.Prelude.{Some, None}
 use Rattle.std.specs.Prelude as code
 use Rattle.judge.specs.declared.steps.Place.{Place}
-use Rattle.judge.specs.declared.rows.Rows.TheVariants.{Lengths, Types, Globals, Functions, Attributes, Lists}
-use Rattle.judge.specs.Steps.{◌>>=◌, thru, only, holds, place, kept}
-use Rattle.judge.specs.Rows.{row_after, table_after, tables_after}
+use Rattle.judge.specs.Steps.{◌>>=◌, thru, only, holds, place, kept, spent}
+use Rattle.judge.specs.Rows.{table_after, tables_after}
 use Rattle.judge.specs.Judge.{judged_bytes, not_sound, judged_read, summary, head_fits, head_class}
 use Rattle.judge.proofs.LawsThru.{thru-bind, thru-map, thru-such, only-thru, then-thru, then-only, kept_at}
 use Rattle.judge.proofs.LawsTests.{holds_same, holds-both, holds_fits, holds-eq, holds-yes}
@@ -41,40 +40,33 @@ use Rattle.judge.proofs.LawsRows.{field}
 use Rattle.judge.proofs.LawsTables.{thru-with, thru-same, sum_by, sum-lengths, sum-bodies, strings-counted, contents, kept_table, spent-table}
 
 -- The seven tables, each behind the one before it.
-module _ (c : VersionClass) (l : List ℕ) (at : Place) where
-  strings-at : table_after Lengths c 5 l at ≡
+module _ (l : List ℕ) (at : Place) where
+  strings-at : table_after (spent word (λ n. n) l) 5 l at ≡
       thru None (table_at (contents l) 0 word l at.word)
       (λ vs j. only None (leb (sum_by (λ n. n) vs) at.left) (Some (place j (at.left - sum_by (λ n. n) vs))))
-  unfolding row_after
-  strings-at = spent-table c l 0 (omega arith) Lengths at word (λ n. n) refl
+  strings-at = spent-table l 0 (omega arith) at word (λ n. n)
 
-  types-at : table_after Types c 7 l at ≡ thru None (table_at (contents l) 1 (type_at c) l at.word) (λ vs j. Some (place j at.left))
-  unfolding row_after
-  types-at = kept_table c l 1 (omega arith) Types at (type_at c) refl
+  types-at : (c : VersionClass) → table_after (kept (type_at c) l) 7 l at ≡ thru None (table_at (contents l) 1 (type_at c) l at.word) (λ vs j. Some (place j at.left))
+  types-at c = kept_table l 1 (omega arith) at (type_at c)
 
-  constants-at : table_after Lengths c 9 l at ≡
+  constants-at : table_after (spent word (λ n. n) l) 9 l at ≡
       thru None (table_at (contents l) 2 word l at.word)
       (λ vs j. only None (leb (sum_by (λ n. n) vs) at.left) (Some (place j (at.left - sum_by (λ n. n) vs))))
-  unfolding row_after
-  constants-at = spent-table c l 2 (omega arith) Lengths at word (λ n. n) refl
+  constants-at = spent-table l 2 (omega arith) at word (λ n. n)
 
-  globals-at : table_after Globals c 11 l at ≡ thru None (table_at (contents l) 3 (global_at c) l at.word) (λ vs j. Some (place j at.left))
-  unfolding row_after
-  globals-at = kept_table c l 3 (omega arith) Globals at (global_at c) refl
+  globals-at : (c : VersionClass) → table_after (kept (global_at c) l) 11 l at ≡ thru None (table_at (contents l) 3 (global_at c) l at.word) (λ vs j. Some (place j at.left))
+  globals-at c = kept_table l 3 (omega arith) at (global_at c)
 
-  functions-at : table_after Functions c 13 l at ≡
+  functions-at : table_after (spent function_at (λ f. f.body_length) l) 13 l at ≡
       thru None (table_at (contents l) 4 function_at l at.word)
       (λ vs j. only None (leb (sum_by (λ f. f.body_length) vs) at.left) (Some (place j (at.left - sum_by (λ f. f.body_length) vs))))
-  unfolding row_after
-  functions-at = spent-table c l 4 (omega arith) Functions at function_at (λ f. f.body_length) refl
+  functions-at = spent-table l 4 (omega arith) at function_at (λ f. f.body_length)
 
-  attributes-at : table_after Attributes c 15 l at ≡ thru None (table_at (contents l) 5 attribute_at l at.word) (λ vs j. Some (place j at.left))
-  unfolding row_after
-  attributes-at = kept_table c l 5 (omega arith) Attributes at attribute_at refl
+  attributes-at : table_after (kept attribute_at l) 15 l at ≡ thru None (table_at (contents l) 5 attribute_at l at.word) (λ vs j. Some (place j at.left))
+  attributes-at = kept_table l 5 (omega arith) at attribute_at
 
-  lists-at : table_after Lists c 17 l at ≡ thru None (table_at (contents l) 6 list_at l at.word) (λ vs j. Some (place j at.left))
-  unfolding row_after
-  lists-at = kept_table c l 6 (omega arith) Lists at list_at refl
+  lists-at : table_after (kept list_at l) 17 l at ≡ thru None (table_at (contents l) 6 list_at l at.word) (λ vs j. Some (place j at.left))
+  lists-at = kept_table l 6 (omega arith) at list_at
 
 -- The end: the sheet's last word, and nothing left.
 abbrev pub ending : ℕ → Judged → Place → code.Option Judged

@@ -12,15 +12,13 @@ use Rattle.exact.specs.Exact.{Parser}
 use Rattle.exact.specs.Repeat.{times}
 use Rattle.exact.specs.Padding.{here}
 use Rattle.enums.specs.Refusals as refusals
-use Rattle.enums.specs.declared.VersionClass.{VersionClass}
 use Rattle.format.specs.Sheet.{FunctionRow, length_words, total}
 use Rattle.format.specs.Judge.{word, start_in, count_in, starts_here, table_at}
 use Rattle.format.proofs.LawsFlat.{Any, TableOf, table_of, table-exact, length-exact}
 use Rattle.std.specs.Prelude.{Option, Some, None}
 use Rattle.judge.specs.declared.steps.Place.{Place}
-use Rattle.judge.specs.declared.rows.Rows.{Rows}
 use Rattle.judge.specs.Steps.{◌>>=◌, thru, only, place, kept, spent}
-use Rattle.judge.specs.Rows.{row_after, rows_after, table_after}
+use Rattle.judge.specs.Rows.{rows_after, table_after}
 use Rattle.judge.proofs.LawsThru.{thru-bind, thru-map, thru-pure, only-thru, then-thru, then-only, kept_at, chosen}
 use Rattle.judge.proofs.LawsTests.{holds-eq}
 use Rattle.judge.proofs.LawsRows.{field, spent-at}
@@ -114,20 +112,20 @@ strings-counted cs l i vs j e = counted ((table-exact cs 0 length-exact).sound l
 abbrev pub contents : List ℕ → List ℕ
 contents l = take 14 (drop 5 l)
 
-module _ (c : VersionClass) (l : List ℕ) (k : ℕ) (h : 2 * k + 1 < 14) (rows : Rows) (at : Place) {A : Type 0} (p : Parser A) where
+module _ (l : List ℕ) (k : ℕ) (h : 2 * k + 1 < 14) (at : Place) {A : Type 0} (p : Parser A) where
   -- A table without lengths ..
-  pub kept_table : row_after rows c l ≡ kept p l →
-      table_after rows c (5 + 2 * k) l at ≡ thru None (table_at (contents l) k p l at.word) (λ vs j. Some (place j at.left))
+  pub kept_table :
+      table_after (kept p l) (5 + 2 * k) l at ≡ thru None (table_at (contents l) k p l at.word) (λ vs j. Some (place j at.left))
   unfolding table_after
-  kept_table r =
+  kept_table =
       let e : 5 + 2 * k + 1 ≡ 5 + (2 * k + 1) = omega arith in
-      rw (r, rows-kept p l (get_or l (5 + 2 * k + 1) 0) at, table-read None (contents l) k p l at.word (λ vs j. Some (place j at.left)), field 14 l 5 (2 * k) (omega arith), field 14 l 5 (2 * k + 1) h, e)
+      rw (rows-kept p l (get_or l (5 + 2 * k + 1) 0) at, table-read None (contents l) k p l at.word (λ vs j. Some (place j at.left)), field 14 l 5 (2 * k) (omega arith), field 14 l 5 (2 * k + 1) h, e)
 
   -- .. and one with lengths.
-  pub spent-table : (f : A → ℕ) → row_after rows c l ≡ spent p f l →
-      table_after rows c (5 + 2 * k) l at ≡
+  pub spent-table : (f : A → ℕ) →
+      table_after (spent p f l) (5 + 2 * k) l at ≡
       thru None (table_at (contents l) k p l at.word) (λ vs j. only None (leb (sum_by f vs) at.left) (Some (place j (at.left - sum_by f vs))))
   unfolding table_after
-  spent-table f r =
+  spent-table f =
       let e : 5 + 2 * k + 1 ≡ 5 + (2 * k + 1) = omega arith in
-      rw (r, rows-spent p l f (get_or l (5 + 2 * k + 1) 0) at, table-read None (contents l) k p l at.word (λ vs j. only None (leb (sum_by f vs) at.left) (Some (place j (at.left - sum_by f vs)))), field 14 l 5 (2 * k) (omega arith), field 14 l 5 (2 * k + 1) h, e)
+      rw (rows-spent p l f (get_or l (5 + 2 * k + 1) 0) at, table-read None (contents l) k p l at.word (λ vs j. only None (leb (sum_by f vs) at.left) (Some (place j (at.left - sum_by f vs)))), field 14 l 5 (2 * k) (omega arith), field 14 l 5 (2 * k + 1) h, e)

@@ -16,31 +16,59 @@ use Rattle.judge.proofs.LawsThru.{thru-bind, thru-map, thru-checked, only-thru, 
 use Rattle.judge.proofs.LawsTests.{holds_same, holds-both, holds-either, holds_not, holds-lt, holds_fits, holds-bit0, holds-only, holds-since3, holds-since4, holds-small}
 use Rattle.judge.proofs.LawsSteps.{word_same}
 
+-- Steps and readers in one form, and the tests as numbers compared.
+ruleset steps = (
+  kept_at,
+  then-thru,
+  then-only,
+  only-thru,
+  thru-bind,
+  thru-map,
+  thru-checked,
+  holds_same,
+  holds-both,
+  holds-either,
+  holds_not,
+  holds-only,
+  holds-since3,
+  holds-since4,
+  holds-bit0,
+  holds_fits,
+  holds-lt,
+  holds-small,
+  only-and,
+)
+
 module _ (c : VersionClass) (l : List ℕ) (at : Place) where
-  pub pointer : kept (sound_type c pointer_at) l at ≡ only None (since13_4 c || eqb (value_at l at) 0) (Some at) >>= kept word l >>= kept word l >>= kept (optional (value_at l at) false) l
+  pub pointer : kept (sound_type c pointer_at) l at ≡
+      only None (since13_4 c || eqb (value_at l at) 0) (Some at) >>= kept word l >>= kept word l >>= kept (optional (value_at l at) false) l
   unfolding sound_type pointer_at type? optional optional_byte?
-  pointer = simp (kept_at, then-thru, then-only, only-thru, thru-bind, thru-map, thru-checked, holds_same, holds-both, holds-either, holds_not, holds-only, holds-since3, holds-since4, holds-bit0, holds_fits, holds-lt, holds-small, only-and) (word_same None l at.word _ _ (λ j. refl))
+  pointer = simp steps (word_same None l at.word _ _ (λ j. refl))
 
   pub tile : kept (sound_type c tile_at) l at ≡ kept word l at >>= kept list_at l
   unfolding sound_type tile_at type? holds only
-  tile = simp (kept_at, then-thru, then-only, only-thru, thru-bind, thru-map, thru-checked, holds_same, holds-both, holds-either, holds_not, holds-only, holds-since3, holds-since4, holds-bit0, holds_fits, holds-lt, holds-small, only-and)
+  tile = simp steps
 
-  pub tensor_view : kept (sound_type c tensor_view_at) l at ≡ only None (since13_4 c || eqb (value_at l at) 0) (Some at) >>= kept word l >>= kept word l >>= kept list_at l >>= kept list_at l >>= kept (optional (value_at l at) false) l
+  pub tensor_view : kept (sound_type c tensor_view_at) l at ≡
+      only None (since13_4 c || eqb (value_at l at) 0) (Some at) >>= kept word l >>= kept word l >>= kept list_at l >>= kept list_at l >>= kept (optional (value_at l at) false) l
   unfolding sound_type tensor_view_at type? optional optional_byte?
-  tensor_view = simp (kept_at, then-thru, then-only, only-thru, thru-bind, thru-map, thru-checked, holds_same, holds-both, holds-either, holds_not, holds-only, holds-since3, holds-since4, holds-bit0, holds_fits, holds-lt, holds-small, only-and) (word_same None l at.word _ _ (λ j. refl))
+  tensor_view = simp steps (word_same None l at.word _ _ (λ j. refl))
 
-  pub partition_view : kept (sound_type c partition_view_at) l at ≡ only None (since13_3 c || ltb (value_at l at) 2) (Some at) >>= kept word l >>= kept small_list l >>= kept word l >>= kept small_list l >>= kept (optional (value_at l at) (not (since13_3 c))) l
+  pub partition_view : kept (sound_type c partition_view_at) l at ≡
+      only None (since13_3 c || ltb (value_at l at) 2) (Some at) >>= kept word l >>= kept small_list l >>= kept word l >>= kept small_list l >>= kept (optional (value_at l at) (not (since13_3 c))) l
   unfolding sound_type partition_view_at type? optional small_list
-  partition_view = simp (kept_at, then-thru, then-only, only-thru, thru-bind, thru-map, thru-checked, holds_same, holds-both, holds-either, holds_not, holds-only, holds-since3, holds-since4, holds-bit0, holds_fits, holds-lt, holds-small, only-and) (word_same None l at.word _ _ (λ j. refl))
+  partition_view = simp steps (word_same None l at.word _ _ (λ j. refl))
 
-  pub gather_scatter_view : kept (sound_type c gather_scatter_view_at) l at ≡ kept word l at >>= kept small_list l >>= kept word l >>= kept word l >>= kept (optional (value_at l at) false) l
+  pub gather_scatter_view : kept (sound_type c gather_scatter_view_at) l at ≡
+      kept word l at >>= kept small_list l >>= kept word l >>= kept word l >>= kept (optional (value_at l at) false) l
   unfolding sound_type gather_scatter_view_at type? optional optional_byte? small_list
-  gather_scatter_view = simp (kept_at, then-thru, then-only, only-thru, thru-bind, thru-map, thru-checked, holds_same, holds-both, holds-either, holds_not, holds-only, holds-since3, holds-since4, holds-bit0, holds_fits, holds-lt, holds-small, only-and) (word_same None l at.word _ _ (λ j. refl))
+  gather_scatter_view = simp steps (word_same None l at.word _ _ (λ j. refl))
 
-  pub strided_view : kept (sound_type c strided_view_at) l at ≡ kept word l at >>= kept small_list l >>= kept small_list l >>= kept word l >>= kept small_list l >>= kept (optional (value_at l at) false) l
+  pub strided_view : kept (sound_type c strided_view_at) l at ≡
+      kept word l at >>= kept small_list l >>= kept small_list l >>= kept word l >>= kept small_list l >>= kept (optional (value_at l at) false) l
   unfolding sound_type strided_view_at type? optional optional_byte? small_list
-  strided_view = simp (kept_at, then-thru, then-only, only-thru, thru-bind, thru-map, thru-checked, holds_same, holds-both, holds-either, holds_not, holds-only, holds-since3, holds-since4, holds-bit0, holds_fits, holds-lt, holds-small, only-and) (word_same None l at.word _ _ (λ j. refl))
+  strided_view = simp steps (word_same None l at.word _ _ (λ j. refl))
 
   pub function_type : kept (sound_type c function_type_at) l at ≡ kept list_at l at >>= kept list_at l
   unfolding sound_type function_type_at type? holds only
-  function_type = simp (kept_at, then-thru, then-only, only-thru, thru-bind, thru-map, thru-checked, holds_same, holds-both, holds-either, holds_not, holds-only, holds-since3, holds-since4, holds-bit0, holds_fits, holds-lt, holds-small, only-and)
+  function_type = simp steps

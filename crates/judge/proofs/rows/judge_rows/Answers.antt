@@ -5,7 +5,14 @@ use native.Mathlib.Omega.{arith}
 use Rattle.judge.proofs.LawsTables.{rows_more}
 use Rattle.judge.proofs.rows.judge_rows.Goals as goal
 
-pub loop-preserved : goal.loop-preserved
-loop-preserved c =
+pub returns-in_err-at : goal.returns-in_err-at
+returns-in_err-at g c step does =
     let e : c.args.count - c.loop.counter ≡ c.args.count - (c.loop.counter + 1) + 1 = omega arith in
-    rw (rows_more _ _ _ _ e, ← c.in_ok-at.ensures) at c.loop.invariant
+    let d = does c.loop.at c.judge_row.result c.judge_row.ensures in
+    rw (rows_more _ _ _ _ e, ← d, c.in_err-at.was, ← c.from_residual.ensures) at (c.loop.invariant step does)
+
+pub loop-preserved : goal.loop-preserved
+loop-preserved g c step does =
+    let e : c.args.count - c.loop.counter ≡ c.args.count - (c.loop.counter + 1) + 1 = omega arith in
+    let d = does c.loop.at c.judge_row.result c.judge_row.ensures in
+    rw (rows_more _ _ _ _ e, ← d, c.in_ok-at.was) at (c.loop.invariant step does)
