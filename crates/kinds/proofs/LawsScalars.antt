@@ -1,6 +1,6 @@
 -- The names of the scalars, cut out of one text: one computed test over the tags, and the rule at each. Assumes
 -- nothing.
-use Rattle.std.proofs.Common.{◌≡◌, ℕ, zero, suc, ◌+◌, ◌-◌, ◌<◌, ◌≤◌, Bool, true, false, ◌&&◌, ◌||◌, eqb, ltb, leb, List, [], ◌∷◌, length, get_or, take, drop, sym, refl, ◌∙◌, ap₂, not-suc-le-zero, add-one, arith, le-ltb, ne_eqb, eqb-true, leb-true}
+use Rattle.std.proofs.Common.{◌≡◌, ℕ, zero, suc, ◌+◌, ◌-◌, ◌<◌, Bool, true, false, ◌&&◌, ◌||◌, eqb, ltb, List, [], ◌∷◌, get_or, take, drop, sym, refl, ◌∙◌, ap₂, not-suc-le-zero, arith, le-ltb, ne_eqb, eqb-true}
 use native.Mathlib.Decide.{ℕ_discrete}
 use Prim.Native.String.{String}
 use mathlib.Core.Bool.{and-eq-true_iff, false≢true}
@@ -15,31 +15,6 @@ starts =
 
 abbrev pub names : List ℕ
 names = ascii "i1i8i16i32i64f16bf16f32tf32f64f8e4m3fnf8e5m2tokenf8e8m0fnuf4e2m1fni4f8e5m3fnu"
-
--- Each is at least the one before it, and none is above n: one computed test gives both at each entry.
-abbrev rising : ℕ → List ℕ → Bool
-rising n [] = true
-rising n (x ∷ []) = leb x n
-rising n (x ∷ y ∷ ys) = leb x y && rising n (y ∷ ys)
-
-rising-most : (n x : ℕ) (l : List ℕ) → rising n (x ∷ l) ≡ true → x ≤ n
-rising-most n x [] e = leb-true x n e
-rising-most n x (y ∷ ys) e =
-    let b = (and-eq-true_iff (leb x y) (rising n (y ∷ ys))).0 e in
-    omega (arith, leb-true x y b.0, rising-most n y ys b.1)
-
-rising-at : (n : ℕ) (l : List ℕ) → rising n l ≡ true → (i : ℕ) → suc i < length l →
-    (get_or l i 0 ≤ get_or l (suc i) 0) × (get_or l (suc i) 0 ≤ n)
-rising-at n [] e i h = absurd (not-suc-le-zero h)
-rising-at n (x ∷ []) e i h = absurd (omega arith)
-rising-at n (x ∷ y ∷ ys) e zero h =
-    let b = (and-eq-true_iff (leb x y) (rising n (y ∷ ys))).0 e in
-    (leb-true x y b.0, rising-most n y ys b.1)
-rising-at n (x ∷ y ∷ ys) e (suc i) h =
-    rising-at n (y ∷ ys) ((and-eq-true_iff (leb x y) (rising n (y ∷ ys))).0 e).1 i (omega arith)
-
-pub starts-rise : (i : ℕ) → i < 24 → (get_or starts i 0 ≤ get_or starts (i + 1) 0) × (get_or starts (i + 1) 0 ≤ 77)
-starts-rise i h = rw add-one (rising-at 77 starts refl i (omega arith))
 
 -- Whether two texts are the same.
 abbrev same : List ℕ → List ℕ → Bool
