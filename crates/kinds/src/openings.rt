@@ -1,5 +1,5 @@
 // What stands before the names in a type's text, by kind: all of it, of a scalar.
-ghost use Rattle.std.specs.Prelude.{◌-◌, ◌≤◌, ◌++◌, length, take, drop};
+ghost use Rattle.std.specs.Prelude.{◌≡◌, ◌++◌};
 ghost use Rattle.enums.specs.Types.{tag_tile, tag_tensor_view, tag_strided_view};
 ghost use Rattle.format.specs.Kinds.{a_tile, a_tensor_view, a_strided_view};
 ghost use Rattle.format.specs.Names.{ascii, scalar_names, name_of_tag};
@@ -9,37 +9,34 @@ ghost use Rattle.kinds.specs.Kinds.{shown};
 ghost use Rattle.kinds.specs.Parts.{shaped, opening};
 
 use crate::{Kind, after_list};
-use enums::TypeTag;
 use text::Pen;
 use text::numbers::Number;
 
-// Where the name of each tag below 23 begins among all names, where that of 0x82 does, and where they end. Tags with
-// fields have none.
-const STARTS: [usize; 25] = [
-    0, 2, 4, 7, 10, 13, 16, 20, 23, 27, 30, 38, 44, 44, 44, 44, 44, 44, 49, 58, 66, 66, 66, 68, 77,
-];
-
-// A part of a text.
-fn part(text: &[u8], start: usize, end: usize, out: &mut [u8], pen: Pen) -> Pen
-    requires { (start ≤ end) × (end ≤ length text.now) }
-    ensures { Put (take (end - start) (drop start text.now)) pen out.old out.new result }
-{
-    pen.put_text(out, &text[start..end])
-}
-
 // The name of a scalar, or of Token; nothing, of another tag.
-fn scalar(tag: u64, out: &mut [u8], pen: Pen) -> Pen
-    ensures { Put (name_of_tag scalar_names tag) pen out.old out.new result }
+#[tactic(auto, unfolding(format::specs::Names::name_of_tag, exact::specs::Choice::choose))]
+fn scalar_name(tag: u64) -> &'static [u8]
+    ensures { result.now ≡ name_of_tag scalar_names tag }
 {
-    let names = b"i1i8i16i32i64f16bf16f32tf32f64f8e4m3fnf8e5m2tokenf8e8m0fnuf4e2m1fni4f8e5m3fnu";
-    if tag == TypeTag::F8E5M3FNU as u64 {
-        return part(names, STARTS[23], STARTS[24], out, pen);
+    match tag {
+        0 => b"i1",
+        1 => b"i8",
+        2 => b"i16",
+        3 => b"i32",
+        4 => b"i64",
+        5 => b"f16",
+        6 => b"bf16",
+        7 => b"f32",
+        8 => b"tf32",
+        9 => b"f64",
+        10 => b"f8e4m3fn",
+        11 => b"f8e5m2",
+        17 => b"token",
+        18 => b"f8e8m0fnu",
+        19 => b"f4e2m1fn",
+        22 => b"i4",
+        0x82 => b"f8e5m3fnu",
+        _ => b"",
     }
-    if 22 < tag {
-        return pen;
-    }
-    let i = tag as usize;
-    part(names, STARTS[i], STARTS[i + 1], out, pen)
 }
 
 // The dims and their x. A tile of rank 0 has neither.
@@ -103,6 +100,6 @@ pub fn put_opening(sheet: &[u8], kind: Kind, tag: u64, at: usize, out: &mut [u8]
         Kind::Function => pen.put_text(out, b"("),
         Kind::GatherScatterView => view(sheet, at, b"gather_scatter_view<tile=(", out, pen),
         Kind::StridedView => strided_view(sheet, at, out, pen),
-        Kind::Plain => scalar(tag, out, pen),
+        Kind::Plain => pen.put_text(out, scalar_name(tag)),
     }
 }
