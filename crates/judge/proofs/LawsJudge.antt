@@ -6,9 +6,11 @@ use native.Mathlib.Omega.{arith}
 use mathlib.Core.Bool.{Bool, true, false}
 use mathlib.Core.List.{List, [], ◌∷◌, map}
 use mathlib.Core.Option.{Option, none, some}
+use mir.Val as val
+use mir.Syntax.{w8}
 use lib.Dec.{eqb, ltb, leb}
 use lib.ListN.{length, get_or, length-map}
-use borrow.Author.Tests.{lt-ltb, le-leb, eq-eqb, leb-true, eqb-true}
+use borrow.Author.Tests.{ne_eqb, lt-ltb, le-leb, eq-eqb, leb-true, eqb-true}
 use Rattle.exact.specs.Got.{Got, got, stop}
 use Rattle.exact.specs.Choice.{choose}
 use Rattle.exact.specs.Fixed.{raw}
@@ -330,12 +332,22 @@ module _ (s : List ℕ) (bytes : (i : ℕ) → get_or s i 0 < 256) (whole : leng
             simp (kept_at, words-end) (few-refused (words_in s) (omega arith))
       ]
 
-  pub judging-all : judged_read (judging s) ≡ summary (judged_bytes s)
+  pub judging_all : judged_read (judging s) ≡ summary (judged_bytes s)
   unfolding head_class closed only
-  judging-all = rw (whole_words s whole) (go (head_fits (words_in s)) refl)
+  judging_all = rw (whole_words s whole) (go (head_fits (words_in s)) refl)
     where
       go : (b : Bool) → head_fits (words_in s) ≡ b →
           judged_read (only None b (Some class₀) >>= (λ class. kept (raw 19) (words_in s) (place 0 (get_or (words_in s) 4 0)) >>= tables_after class (words_in s) >>=
           ending (length s / 8) record { class = class; pool = get_or (words_in s) 4 0 })) ≡ summary (judged (words_in s))
       go true e = rw (← length-words_in s) (tables e)
       go false e = head-refused (words_in s) e
+
+-- What is judged, of any store of bytes.
+pub judge : (s : List ℕ) → ((i : ℕ) → val.Fits w8 (get_or s i 0)) →
+    summary (judged_bytes s) ≡ judged_read (only None (eqb (length s % 8) 0) (judging s))
+unfolding only
+judge s bytes = go (ℕ_discrete (length s % 8) 0)
+  where
+    go : Dec (length s % 8 ≡ 0) → summary (judged_bytes s) ≡ judged_read (only None (eqb (length s % 8) 0) (judging s))
+    go (yes h) = rw (eq-eqb (length s % 8) 0 h) (sym (judging_all s (λ i. omega (arith, bytes i)) h))
+    go (no h) = rw (ne_eqb (length s % 8) 0 h) (sym (part-words s h))

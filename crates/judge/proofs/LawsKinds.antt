@@ -12,7 +12,6 @@ use Rattle.exact.specs.Got.{Got, got, stop, follow}
 use Rattle.exact.specs.Exact.{Parser}
 use Rattle.exact.specs.Basic.{fail}
 use Rattle.exact.specs.Sequence.{bind}
-use Rattle.exact.specs.Choice.{choose}
 use Rattle.exact.proofs.LawsChoice.{choose_yes, choose_no}
 use Rattle.exact.proofs.LawsSteps.{byte_at}
 use Rattle.enums.specs.Refusals as refusals
@@ -21,7 +20,7 @@ use Rattle.format.specs.Tables.{TypeRow}
 use Rattle.format.specs.Sheet.{field_words}
 use Rattle.format.specs.Types.{plain_tags, among}
 use Rattle.format.specs.Tests.{both?, plain?, type?}
-use Rattle.format.specs.Judge.{word, pointer_at, tile_at, tensor_view_at, partition_view_at, gather_scatter_view_at, strided_view_at, function_type_at, kind_at, type_at}
+use Rattle.format.specs.Judge.{word, kind_at, type_at}
 use Rattle.format.proofs.LawsFlat.{Flat, flat}
 use Rattle.format.proofs.LawsTypeRow.{fields-exact}
 use Rattle.std.specs.Prelude.{Option, Some, None}
@@ -31,38 +30,8 @@ use Rattle.judge.proofs.LawsThru.{thru-bind, thru-such, thru-checked, thru-pure,
 use Rattle.judge.proofs.LawsTests.{holds-both, holds-eq, holds-yes}
 use Rattle.judge.proofs.LawsSteps.{word_at, word_end}
 
--- Each kind has its tag.
-module _ {t : ℕ} where
-  pub kind-pointer : t ≡ 12 → pointer_at ≡ kind_at t
-  unfolding kind_at choose plain? ℕ_discrete
-  kind-pointer e = rw e
-
-  pub kind-tile : t ≡ 13 → tile_at ≡ kind_at t
-  unfolding kind_at choose plain? ℕ_discrete
-  kind-tile e = rw e
-
-  pub kind-tensor : t ≡ 14 → tensor_view_at ≡ kind_at t
-  unfolding kind_at choose plain? ℕ_discrete
-  kind-tensor e = rw e
-
-  pub kind-partition : t ≡ 15 → partition_view_at ≡ kind_at t
-  unfolding kind_at choose plain? ℕ_discrete
-  kind-partition e = rw e
-
-  pub kind-function : t ≡ 16 → function_type_at ≡ kind_at t
-  unfolding kind_at choose plain? ℕ_discrete
-  kind-function e = rw e
-
-  pub kind-gather : t ≡ 20 → gather_scatter_view_at ≡ kind_at t
-  unfolding kind_at choose plain? ℕ_discrete
-  kind-gather e = rw e
-
-  pub kind-strided : t ≡ 21 → strided_view_at ≡ kind_at t
-  unfolding kind_at choose plain? ℕ_discrete
-  kind-strided e = rw e
-
 -- Fields by a reader that is the same.
-pub kind-as : (c : VersionClass) (l : List ℕ) (at : Place) {p q : Parser TypeRow} {r : Option Place} → p ≡ q →
+kind-as : (c : VersionClass) (l : List ℕ) (at : Place) {p q : Parser TypeRow} {r : Option Place} → p ≡ q →
     r ≡ kept (sound_type c p) l at → r ≡ kept (sound_type c q) l at
 kind-as c l at e x = x ∙ ap (λ p. kept (sound_type c p) l at) e
 

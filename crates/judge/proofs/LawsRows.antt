@@ -66,9 +66,9 @@ pub field : (n : ℕ) (l : List ℕ) (i k : ℕ) → k < n → get_or (take n (d
 field n l i k h = rw (get_or-take, get_or-drop)
 
 -- Words that were passed are words of the sheet.
-pub passed-words : (n : ℕ) (l : List ℕ) (at end : Place) → Some end ≡ kept (raw n) l at → at.word + n ≡ end.word
+pub passed_words : (n : ℕ) (l : List ℕ) (at end : Place) → Some end ≡ kept (raw n) l at → at.word + n ≡ end.word
 unfolding kept
-passed-words n l at end e =
+passed_words n l at end e =
     elim (dec_le n (length l - at.word)) [
       | yes h ↦ let k : Some end ≡ Some (place (at.word + n) at.left) = e ∙ words-at None n l at.word _ h in cc
       | no h ↦ let k : Some end ≡ None = e ∙ words-end None n l at.word _ (omega arith) in cc

@@ -85,21 +85,21 @@ pub only-false : {A : Type 0} {b : Bool} (o : Option A) → b ≡ false → None
 unfolding only
 only-false o e = rw e
 
--- Words, where there is room for them ..
-pub pass-many : (s : List ℕ) (n : ℕ) (at : Place) {room : ℕ} → n ≤ room → room ≡ length s / 8 - at.word →
-    Some (place (at.word + n) at.left) ≡ kept (raw n) (words_in s) at
+-- Words, if there is room for them.
+pub pass_words : (s : List ℕ) (n : ℕ) (at : Place) →
+    kept (raw n) (words_in s) at ≡ only None (leb n (length s / 8 - at.word)) (Some (place (at.word + n) at.left))
 unfolding kept
-pass-many s n at h r = sym (words-at None n (words_in s) at.word _ (omega (arith, length-words_in s)))
-
--- .. and where there is not.
-pub pass-few : (s : List ℕ) (n : ℕ) (at : Place) {room : ℕ} → room < n → room ≡ length s / 8 - at.word → None ≡ kept (raw n) (words_in s) at
-unfolding kept
-pass-few s n at h r = sym (words-end None n (words_in s) at.word _ (omega (arith, length-words_in s)))
+pass_words s n at =
+    let e = length-words_in s in
+    elim (dec_le n (length s / 8 - at.word)) [
+      | yes h ↦ words-at None n (words_in s) at.word _ (omega arith) ∙ only-true _ (le-leb n (length s / 8 - at.word) h)
+      | no h ↦ words-end None n (words_in s) at.word _ (omega arith) ∙ only-false _ (lt-leb n (length s / 8 - at.word) (omega arith))
+    ]
 
 -- One word.
-pub pass-one : (l : List ℕ) (at : Place) → kept (raw 1) l at ≡ kept word l at
+pub pass_word : (l : List ℕ) (at : Place) → kept (raw 1) l at ≡ kept word l at
 unfolding times
-pass-one l at = simp kept_at (sym (times-raw None 1 l at.word (λ v j. Some (place j at.left))) ∙ simp (thru-bind, thru-map, thru-pure))
+pass_word l at = simp kept_at (sym (times-raw None 1 l at.word (λ v j. Some (place j at.left))) ∙ simp (thru-bind, thru-map, thru-pure))
 
 -- A list.
 pub pass_list : (l : List ℕ) (at : Place) → kept list_at l at ≡ kept word l at >>= kept (raw (value_at l at)) l
@@ -112,9 +112,9 @@ no_words most l i (suc n) h = rw (drop_of_length-le l {i = i} h)
 
 module _ (most : ℕ) (l : List ℕ) (i end : ℕ) where
   -- No words are so always ..
-  pub up-to-done : end ≤ i → all_up_to most (take (end - i) (drop i l)) ≡ true
+  pub up_to_done : end ≤ i → all_up_to most (take (end - i) (drop i l)) ≡ true
   unfolding all_up_to
-  up-to-done h = let e : end - i ≡ 0 = omega arith in rw e
+  up_to_done h = let e : end - i ≡ 0 = omega arith in rw e
 
   up-to-next : (n : ℕ) → i < length l → end - i ≡ suc n →
       all_up_to most (take (end - i) (drop i l)) ≡ (leb (get_or l i 0) most && all_up_to most (take n (drop (suc i) l)))
@@ -122,19 +122,19 @@ module _ (most : ℕ) (l : List ℕ) (i end : ℕ) where
   up-to-next n h e = rw (e, drop-cons l i 0 h)
 
   -- .. words are if the first and the others are ..
-  pub up-to-more : {w : ℕ} → w ≡ get_or l i 0 → i < end → w ≤ most →
+  pub up_to_more : i < end → get_or l i 0 ≤ most →
       all_up_to most (take (end - (i + 1)) (drop (i + 1) l)) ≡ all_up_to most (take (end - i) (drop i l))
-  up-to-more e h k =
+  up_to_more h k =
       elim (dec_lt i (length l)) [
         | yes m ↦ sym (up-to-next (end - (i + 1)) m (omega arith) ∙ rw (le-leb (get_or l i 0) most (omega arith), add-one))
         | no m ↦ no_words most l (i + 1) (end - (i + 1)) (omega arith) ∙ sym (no_words most l i (end - i) (omega arith))
       ]
 
   -- .. and not if the first is not.
-  pub up-to-not : {w : ℕ} → w ≡ get_or l i 0 → i < end → most < w → false ≡ all_up_to most (take (end - i) (drop i l))
-  up-to-not e h k =
+  pub up_to_not : i < end → most < get_or l i 0 → all_up_to most (take (end - i) (drop i l)) ≡ false
+  up_to_not h k =
       elim (dec_lt i (length l)) [
-        | yes m ↦ sym (up-to-next (end - (i + 1)) m (omega arith) ∙ rw (lt-leb (get_or l i 0) most (omega arith)))
+        | yes m ↦ (up-to-next (end - (i + 1)) m (omega arith) ∙ rw (lt-leb (get_or l i 0) most (omega arith)))
         | no m ↦ let z = get_or-eq_default l 0 {n = i} (omega arith) in absurd (omega arith)
       ]
 

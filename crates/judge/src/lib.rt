@@ -40,6 +40,7 @@ fn head_class(sheet: &[u8]) -> Option<VersionClass>
 // Judges the sheet in a store; one that isn't whole words is refused, and a refusal is 12, which names no place. Words 0
 // to 3 are judged before the tables are followed, and the tables have to end where the sheet does, with nothing left of
 // word 4.
+#[tactic(auto, using(crate::proofs::LawsJudge::judge), unfolding(crate::specs::Steps::only))]
 pub fn judge(sheet: &[u8]) -> Option<Judged>
     ensures { judged_read result ≡ summary (judged_bytes sheet.now) }
 {

@@ -12,7 +12,7 @@ use crate::types::judge_type;
 use enums::{DebugTag, FunctionFlag, VersionClass};
 
 // A global: a visibility byte and a constant flag 0 or 1, both 0 below 13.3.
-#[tactic(auto, using(crate::proofs::LawsRows::judge_global), unfolding(crate::specs::Steps::only))]
+#[tactic(auto, using(crate::proofs::LawsRows::judge_global, crate::proofs::LawsRows::passed_words), unfolding(crate::specs::Steps::only))]
 fn judge_global(sheet: &[u8], class: VersionClass, at: Place) -> Option<Place>
     ensures { result ≡ kept (global_at «class») (words_in sheet.now) at }
 {
@@ -27,7 +27,7 @@ fn judge_global(sheet: &[u8], class: VersionClass, at: Place) -> Option<Place>
 }
 
 // A function: a flags byte without the hints flag, and the length of its body.
-#[tactic(auto, using(crate::proofs::LawsRows::judge_function), unfolding(crate::specs::Steps::only))]
+#[tactic(auto, using(crate::proofs::LawsRows::judge_function, crate::proofs::LawsRows::passed_words), unfolding(crate::specs::Steps::only))]
 fn judge_function(sheet: &[u8], at: Place) -> Option<Place>
     ensures { result ≡ spent function_at (λ f. f.body_length) (words_in sheet.now) at }
 {

@@ -30,6 +30,7 @@ impl Place {
     }
 
     // Whether all words from here up to an end are at most this one.
+    #[tactic(auto, using(crate::proofs::LawsSteps::up_to_done, crate::proofs::LawsSteps::up_to_more, crate::proofs::LawsSteps::up_to_not))]
     pub fn all_up_to(self, sheet: &[u8], most: u64, end: Self) -> bool
         ensures { result ≡ all_up_to most (between (words_in sheet.now) self end) }
     {
@@ -50,6 +51,7 @@ impl Place {
     }
 
     // Passes `count` words. What is left is compared with the count, since a sum of the two may wrap.
+    #[tactic(auto, using(crate::proofs::LawsSteps::pass_words), unfolding(crate::specs::Steps::only))]
     pub fn pass_words(self, sheet: &[u8], count: u64) -> Option<Self>
         ensures { result ≡ kept (raw count) (words_in sheet.now) self }
     {
@@ -64,6 +66,7 @@ impl Place {
     }
 
     // Passes one word.
+    #[tactic(auto, using(crate::proofs::LawsSteps::pass_word))]
     pub fn pass_word(self, sheet: &[u8]) -> Option<Self>
         ensures { result ≡ kept one_word (words_in sheet.now) self }
     {

@@ -91,6 +91,7 @@ fn function_type(sheet: &[u8], class: VersionClass, at: Place) -> Option<Place>
 }
 
 // What stands behind the tag, by kind; a tag has to be known.
+#[tactic(auto, unfolding(format::specs::Judge::kind_at, exact::specs::Choice::choose))]
 fn judge_fields(sheet: &[u8], class: VersionClass, tag: u64, at: Place) -> Option<Place>
     ensures { result ≡ kept (sound_type «class» (kind_at tag)) (words_in sheet.now) at }
 {
