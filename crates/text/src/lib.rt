@@ -9,7 +9,8 @@ ghost use Rattle.text.specs.Text.{Put};
 ghost use Rattle.text.specs.declared.Pen.TheVariants.{At};
 
 // Where the next byte is put; or how much room is left, where nothing is put; `Full` where some text had no room. A
-// cursor by value: each method is lent the buffer, and answers the pen behind what it puts.
+// cursor by value: each method is lent the buffer, and answers the pen behind what it puts. A full pen is handed on like
+// the others, and puts nothing, so that a text is one chain.
 #[derive(Clone, Copy)]
 pub enum Pen {
     At(usize),
