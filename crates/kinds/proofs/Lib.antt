@@ -1,4 +1,3 @@
 pub mod LawsIndices
 pub mod LawsOpenings
 pub mod LawsEndings
-pub mod LawsScalars

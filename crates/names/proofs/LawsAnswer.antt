@@ -11,7 +11,6 @@ use lib.Seq.{take_all}
 use denote.Enum.Declared.{tag_of}
 use types.Run.{OneOf}
 use Rattle.exact.proofs.LawsChoice.{choose_yes, choose_no}
-use Rattle.enums.specs.Refusals as refusals
 use Rattle.encoding.specs.Out.{put}
 use Rattle.encoding.proofs.LawsOut.{put_same}
 use Rattle.format.specs.Read.{Read, accepted, map_read}
@@ -19,8 +18,10 @@ use Rattle.format.specs.Names.{names_of, name_in}
 use Rattle.sheet.specs.Store.{words_in}
 use Rattle.judge.specs.Judge.{judged_bytes, judged_read, summary}
 use Rattle.judge.specs.declared.Judged.{Judged}
-use Rattle.judge.specs.declared.SheetJudged.{SheetJudged}
-use Rattle.judge.specs.declared.SheetJudged.TheVariants as sheet
+use Rattle.std.specs.Prelude.{Result, Ok, Err, Some, None}
+use Rattle.std.specs.Prelude as code
+use Rattle.enums.specs.declared.Refusal.{Refusal}
+use Rattle.enums.specs.declared.Refusal.TheVariants as why
 use Rattle.judge.proofs.LawsPlaced.{stopped_none, passed-of}
 use Rattle.judge.proofs.LawsBodies.{types-counted}
 use Rattle.text.specs.Text.{Put}
@@ -29,16 +30,14 @@ use Rattle.text.specs.contracts.Pen.{the_type as pen-type}
 use Rattle.text.specs.declared.Pen.TheVariants.{At, Counting}
 use Rattle.text.proofs.LawsText.{behind-room, behind-short, counted-room, counted-short, filled_at, filled-counting}
 use Rattle.names.specs.Names.{types_in, name_at, fitting, name_for, with_name, name_read}
-use Rattle.names.specs.declared.Named.{Named}
-use Rattle.names.specs.declared.Named.TheVariants as told
 use Rattle.names.proofs.LawsRows.{Known, known, frame-known}
 
 -- This is what is answered, and this is left in the buffer.
-abbrev pub Answered : List ℕ → ℕ → List ℕ → List ℕ → Named → Type 0
+abbrev pub Answered : List ℕ → ℕ → List ℕ → List ℕ → Result ℕ Refusal → Type 0
 Answered s row out out' r = (name_read r ≡ map_read length (name_for s row out)) × (out' ≡ with_name out (name_for s row out))
 
 -- What the answer and the buffer are, by the name that is told for the buffer.
-answered-by : (s : List ℕ) (row : ℕ) (out out' : List ℕ) (r : Named) (n : Read (List ℕ)) → name_for s row out ≡ n →
+answered-by : (s : List ℕ) (row : ℕ) (out out' : List ℕ) (r : Result ℕ Refusal) (n : Read (List ℕ)) → name_for s row out ≡ n →
     name_read r ≡ map_read length n → out' ≡ with_name out n → Answered s row out out' r
 answered-by s row out out' r n e a b = (a ∙ ap (map_read length) (sym e), b ∙ ap (with_name out) (sym e))
 
@@ -60,17 +59,17 @@ module _ (s : List ℕ) (row : ℕ) (h : row < length (types_in s)) where
   name = name_at s row
 
   -- .. that has no room ..
-  answered-full : (out : List ℕ) → ¬ (length name ≤ length out) → Answered s row out out (told.Refused refusals.full)
+  answered-full : (out : List ℕ) → ¬ (length name ≤ length out) → Answered s row out out (Err why.Full)
   unfolding fitting with_name map_read
   answered-full out n =
-      answered-by s row out out (told.Refused refusals.full) _
+      answered-by s row out out (Err why.Full) _
       (ap (fitting (length out)) (name-there s row h) ∙ choose_no (dec_le (length name) (length out)) _ _ n) refl refl
 
   -- .. or is put.
-  answered-put : (out out' : List ℕ) (n : ℕ) → n ≡ length name → n ≤ length out → out' ≡ put out 0 name → Answered s row out out' (told.Bytes n)
+  answered-put : (out out' : List ℕ) (n : ℕ) → n ≡ length name → n ≤ length out → out' ≡ put out 0 name → Answered s row out out' (Ok n)
   unfolding fitting with_name map_read
   answered-put out out' n e g o =
-      answered-by s row out out' (told.Bytes n) _
+      answered-by s row out out' (Ok n) _
       (ap (fitting (length out)) (name-there s row h) ∙ choose_yes (dec_le (length name) (length out)) _ _ (omega arith)) (ap accepted e) o
 
   -- A name that was counted within the buffer's room: it has none, where the pen counts no more ..
@@ -78,8 +77,8 @@ module _ (s : List ℕ) (row : ℕ) (h : row < length (types_in s)) where
     untouched : kept ≡ out
     untouched = m.output ∙ filled-counting out name (length out)
 
-    pub name-full : OneOf (0 ∷ 2 ∷ []) (tag_of pen-type q) → Answered s row out kept (told.Refused refusals.full)
-    name-full f = subst (λ o. Answered s row out o (told.Refused refusals.full)) (sym untouched) (answered-full out short)
+    pub name-full : OneOf (0 ∷ 2 ∷ []) (tag_of pen-type q) → Answered s row out kept (Err why.Full)
+    name-full f = subst (λ o. Answered s row out o (Err why.Full)) (sym untouched) (answered-full out short)
       where
         short : ¬ (length name ≤ length out)
         short g =
@@ -100,7 +99,7 @@ module _ (s : List ℕ) (row : ℕ) (h : row < length (types_in s)) where
 
     -- .. and is put then.
     pub name-put : (left : ℕ) → q ≡ Counting left → {out' : List ℕ} {r : Pen} → Put name (At 0) kept out' r →
-        Answered s row out out' (told.Bytes (length out - left))
+        Answered s row out out' (Ok (length out - left))
     name-put left f {out'} x =
         let l = counted-left left f in
         let e = ap (λ o. put o 0 (take (length o - 0) name)) untouched ∙ ap (put out 0) (take_all (length out - 0) name (omega (arith, l.0))) in
@@ -121,11 +120,11 @@ module _ (s : List ℕ) (row : ℕ) (h : row < length (types_in s)) where
     size-within = omega (arith, placed.0, placed.1)
 
     -- .. for which the buffer has no room ..
-    pub short-full : (out : List ℕ) → length out < size → Answered s row out out (told.Refused refusals.full)
+    pub short-full : (out : List ℕ) → length out < size → Answered s row out out (Err why.Full)
     short-full out g = answered-full out (let k = placed.1 in omega arith)
 
     -- .. or which was copied.
-    pub short-put : (out out' : List ℕ) → size ≤ length out → out' ≡ put out 0 (take size array') → Answered s row out out' (told.Bytes size)
+    pub short-put : (out out' : List ℕ) → size ≤ length out → out' ≡ put out 0 (take size array') → Answered s row out out' (Ok size)
     short-put out out' g o =
         let l = placed in
         let p : array' ≡ put array 0 name =
@@ -133,31 +132,41 @@ module _ (s : List ℕ) (row : ℕ) (h : row < length (types_in s)) where
         let t : take size array' ≡ name = ap₂ take l.1 p ∙ put_same array 0 name (let k = l.0 in omega arith) in
         answered-put out out' size l.1 g (o ∙ ap (put out 0) t)
 
-module _ (s : List ℕ) (row : ℕ) (out : List ℕ) {x : SheetJudged} (e : judged_read x ≡ summary (judged_bytes s)) where
+-- What is told of a sheet that the judge passed, and of another one.
+told-passed : (x : code.Option Judged) (j : Judged) → Ok j ≡ code.ok_or x why.Sheet → x ≡ Some j
+told-passed (Some i) j e = cc
+told-passed None j e = cc
+
+told-refused : (x : code.Option Judged) (y : Refusal) → Err y ≡ code.ok_or x why.Sheet → (x ≡ None) × (y ≡ why.Sheet)
+told-refused (Some i) y e = absurd (cc)
+told-refused None y e = (refl, (cc))
+
+module _ (s : List ℕ) (row : ℕ) (out : List ℕ) (x : code.Option Judged) (e : judged_read x ≡ summary (judged_bytes s)) where
   -- A sheet that is not well-formed ..
-  pub sheet-refused : x ≡ sheet.Stop → Answered s row out out (told.Refused refusals.unsound)
+  pub sheet-refused : {y : Refusal} {r : Result ℕ Refusal} → Err y ≡ code.ok_or x why.Sheet → r ≡ Err y → Answered s row out out r
   unfolding name_in fitting with_name map_read
-  sheet-refused h =
-      let o = stopped_none (judged_bytes s) (sym (ap judged_read h) ∙ e) in
-      answered-by s row out out (told.Refused refusals.unsound) _ (ap (λ o. fitting (length out) (name_in o row)) o) refl refl
+  sheet-refused {y} h k =
+      let t = told-refused x y h in
+      let o = stopped_none (judged_bytes s) (sym (ap judged_read t.0) ∙ e) in
+      rw (k, t.1) (answered-by s row out out (Err why.Sheet) _ (ap (λ o. fitting (length out) (name_in o row)) o) refl refl)
 
   -- .. one that passed, whose count of types is so ..
-  passed : (j : Judged) → x ≡ sheet.Passed j → Known s
-  passed j h = let p = passed-of s j (sym (ap judged_read h) ∙ e) in frame-known s p.frame p.judged
+  passed : (j : Judged) → Ok j ≡ code.ok_or x why.Sheet → Known s
+  passed j h = let p = passed-of s j (sym (ap judged_read (told-passed x j h)) ∙ e) in frame-known s p.frame p.judged
 
-  pub types-told : (j : Judged) → x ≡ sheet.Passed j → (n : ℕ) → n ≡ get_or (words_in s) 8 0 → n ≡ length (types_in s)
+  pub types-told : (j : Judged) → Ok j ≡ code.ok_or x why.Sheet → (n : ℕ) → n ≡ get_or (words_in s) 8 0 → n ≡ length (types_in s)
   types-told j h n f =
       let k = passed j h in
       f ∙ ap (λ l. get_or l 8 0) k.words ∙ types-counted k.frame ∙ ap length (sym k.types)
 
   -- .. and that does not have the row.
-  pub row-refused : (j : Judged) → x ≡ sheet.Passed j → (n : ℕ) → n ≡ get_or (words_in s) 8 0 → n ≤ row →
-      Answered s row out out (told.Refused refusals.not_there)
+  pub row-refused : (j : Judged) → Ok j ≡ code.ok_or x why.Sheet → (n : ℕ) → n ≡ get_or (words_in s) 8 0 → n ≤ row →
+      Answered s row out out (Err why.Absent)
   unfolding name_in fitting with_name map_read
   row-refused j h n f g =
       let k = passed j h in
       let l = types-told j h n f ∙ ap length k.types in
       let z : ¬ (row < length k.frame.types) = omega arith in
-      answered-by s row out out (told.Refused refusals.not_there) _
+      answered-by s row out out (Err why.Absent) _
       (ap (λ o. fitting (length out) (name_in o row)) k.judged ∙ ap (fitting (length out)) (choose_no (dec_lt row (length k.frame.types)) _ _ z))
       refl refl

@@ -1,10 +1,12 @@
 -- What the name of a type row of a handed sheet is, and what is answered and left in the buffer (document 02, request
 -- 1/14: 12, then 14 for the row, then 11, each leaving the buffer untouched).
-use Rattle.std.specs.Prelude.{ℕ, List, [], length, take, drop, get_or}
+use Rattle.std.specs.Prelude.{ℕ, List, [], length, take, drop, get_or, Result, Ok, Err}
 use Rattle.std.proofs.Math.Decide.{dec_le}
 use Rattle.std.proofs.Math.Option.{Option, none, some}
 use Rattle.exact.specs.Choice.{choose}
 use Rattle.enums.specs.Refusals as refusals
+use Rattle.enums.specs.Numbered.{number_of}
+use Rattle.enums.specs.declared.Refusal.{Refusal}
 use Rattle.encoding.specs.Out.{put}
 use Rattle.format.specs.Tables.{TypeRow, plain}
 use Rattle.format.specs.Read.{Read, accepted, refused}
@@ -13,8 +15,6 @@ use Rattle.format.specs.Names.{listed, names_of, name_in}
 use Rattle.sheet.specs.Store.{words_in}
 use Rattle.sheet.specs.Lies.{Lies}
 use Rattle.judge.specs.Judge.{judged_bytes}
-use Rattle.names.specs.declared.Named.{Named}
-use Rattle.names.specs.declared.Named.TheVariants as told
 
 -- The type rows of the sheet in a store; none where it is not well-formed.
 unfoldable pub types_of : Option Frame → List TypeRow
@@ -50,6 +50,6 @@ with_name out (accepted t) = put out 0 t
 with_name out (refused c n i) = out
 
 -- What an answer means.
-abbrev pub name_read : Named → Read ℕ
-name_read (told.Bytes n) = accepted n
-name_read (told.Refused c) = refused c refusals.at_call 0
+abbrev pub name_read : Result ℕ Refusal → Read ℕ
+name_read (Ok n) = accepted n
+name_read (Err r) = refused (number_of r) refusals.at_call 0

@@ -9,16 +9,8 @@ ghost use Rattle.sheet.specs.Store.{words_in};
 ghost use Rattle.names.specs.Names.{types_in, name_at, list_at, RowAt, name_for, with_name, name_read};
 
 use enums::{Refusal, TypeTag};
-use judge::SheetJudged;
 use kinds::Part;
 use text::Pen;
-
-// The length of the name, or a refusal's number; the stage is that of a call.
-#[derive(Clone, Copy)]
-pub enum Named {
-    Bytes(usize),
-    Refused(u8),
-}
 
 // The word of a row's tag. Each row before it is passed by the number of its words.
 fn row_at(sheet: &[u8], row: u64) -> usize
@@ -26,10 +18,8 @@ fn row_at(sheet: &[u8], row: u64) -> usize
     ensures { RowAt sheet.now row result }
 {
     let mut word = sheet::word_at(sheet, 7) as usize;
-    let mut left = row;
-    while 0 < left {
+    for _ in 0..row {
         word = word + 1 + sheet::word_at(sheet, word) as usize;
-        left -= 1;
     }
     word + 1
 }
@@ -53,7 +43,7 @@ fn describe_type(sheet: &[u8], row: u64, out: &mut [u8], pen: Pen) -> Pen
     }
     let second = kinds::counted_at(sheet, behind);
     let results = describe_list(sheet, row, second.word, second.count, out, ended);
-    text::put_byte(out, results, b')')
+    results.put_byte(out, b')')
 }
 
 // Describes the rows of `left` indices from a word on, as far as there is room; one that is not earlier is "?".
@@ -73,34 +63,34 @@ fn describe_list(sheet: &[u8], row: u64, word: usize, left: u64, out: &mut [u8],
     let named = if index < row {
         describe_type(sheet, index, out, pen)
     } else {
-        text::put_byte(out, pen, b'?')
+        pen.put_byte(out, b'?')
     };
     if left == 1 {
         return named;
     }
-    let separated = text::put_text(out, named, b", ");
+    let separated = named.put_text(out, b", ");
     describe_list(sheet, row, word + 1, left - 1, out, separated)
 }
 
 // The name of a row that is there: 11 where it has no room. It is counted within the room, and then put.
-fn put_long_name(sheet: &[u8], row: u64, out: &mut [u8]) -> Named
+fn put_long_name(sheet: &[u8], row: u64, out: &mut [u8]) -> Result<usize, Refusal>
     requires { row < length (types_in sheet.now) }
     ensures result_value { name_read result ≡ map_read length (name_for sheet.now row out.old) }
     ensures out_after { out.new ≡ with_name out.old (name_for sheet.now row out.old) }
 {
     let room = out.len();
     let Pen::Counting(left) = describe_type(sheet, row, out, Pen::Counting(room)) else {
-        return Named::Refused(Refusal::FULL);
+        return Err(Refusal::Full);
     };
     describe_type(sheet, row, out, Pen::At(0));
-    Named::Bytes(room - left)
+    Ok(room - left)
 }
 
 // Nearly all names are at most so long.
 const SHORT: usize = 256;
 
 // The same. A short name is put into an array of our own and copied, so that its rows are looked for once.
-fn put_name(sheet: &[u8], row: u64, out: &mut [u8]) -> Named
+fn put_name(sheet: &[u8], row: u64, out: &mut [u8]) -> Result<usize, Refusal>
     requires { row < length (types_in sheet.now) }
     ensures result_value { name_read result ≡ map_read length (name_for sheet.now row out.old) }
     ensures out_after { out.new ≡ with_name out.old (name_for sheet.now row out.old) }
@@ -110,22 +100,21 @@ fn put_name(sheet: &[u8], row: u64, out: &mut [u8]) -> Named
         return put_long_name(sheet, row, out);
     };
     if out.len() < size {
-        return Named::Refused(Refusal::FULL);
+        return Err(Refusal::Full);
     }
     sheet::put_run(out, 0, &short[..size]);
-    Named::Bytes(size)
+    Ok(size)
 }
 
-// The name of a type row of a handed sheet, at the start of a lent buffer. A refused call leaves the buffer untouched.
-pub fn type_text(sheet: &[u8], row: u64, out: &mut [u8]) -> Named
+// The name of a type row of a handed sheet, at the start of a lent buffer: its length, or why there is none. A refused
+// call leaves the buffer untouched.
+pub fn type_text(sheet: &[u8], row: u64, out: &mut [u8]) -> Result<usize, Refusal>
     ensures result_value { name_read result ≡ map_read length (name_for sheet.now row out.old) }
     ensures out_after { out.new ≡ with_name out.old (name_for sheet.now row out.old) }
 {
-    let SheetJudged::Passed(_) = judge::judge(sheet) else {
-        return Named::Refused(Refusal::SHEET);
-    };
+    judge::judge(sheet).ok_or(Refusal::Sheet)?;
     if sheet::word_at(sheet, 8) <= row {
-        return Named::Refused(Refusal::ABSENT);
+        return Err(Refusal::Absent);
     }
     put_name(sheet, row, out)
 }

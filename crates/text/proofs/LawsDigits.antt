@@ -1,5 +1,5 @@
 -- The digits of a number, put from the last one back at the end of an array. Assumes nothing.
-use Rattle.std.proofs.Common.{◌≡◌, ℕ, zero, suc, ◌+◌, ◌-◌, ◌*◌, ◌/◌, ◌%◌, ◌^◌, ◌<◌, ◌≤◌, List, [], ◌∷◌, ◌++◌, length, take, drop, set, sym, refl, ap, ◌∙◌, append_assoc, pow-suc, arith, length-drop, length-set, take_all, drop-cons, get_or-set_same, drop-set-lt}
+use Rattle.std.proofs.Common.{◌≡◌, ℕ, zero, suc, ◌+◌, ◌-◌, ◌*◌, ◌/◌, ◌%◌, ◌^◌, ◌<◌, ◌≤◌, List, [], ◌∷◌, ◌++◌, length, drop, set, sym, refl, ap, ◌∙◌, append_assoc, pow-suc, arith, length-set, drop-cons, get_or-set_same, drop-set-lt}
 use native.Mathlib.Decide.{dec_lt}
 use Rattle.exact.proofs.LawsChoice.{choose_yes, choose_no}
 use Rattle.format.specs.Names.{digits}
@@ -42,7 +42,3 @@ pub spelt-one : (at rest : ℕ) (ds whole : List ℕ) → at < length ds → res
     drop at (set ds at (48 + rest)) ≡ whole
 spelt-one at rest ds whole h k e =
     drop-set ds at (48 + rest) h ∙ sym (e ∙ ap (λ l. l ++ drop (suc at) ds) (digits-one at rest k))
-
--- What stands from a place up to the end.
-pub to_end : (n i : ℕ) (l : List ℕ) → length l ≡ n → take (n - i) (drop i l) ≡ drop i l
-to_end n i l e = let d = length-drop i l in take_all (n - i) (drop i l) (omega arith)

@@ -1,11 +1,11 @@
 -- Numbers that were put as text: signed ones, those of a list, and lists of them. Assumes nothing.
-use Rattle.std.proofs.Common.{◌≡◌, ℕ, suc, ◌+◌, ◌-◌, ◌*◌, ◌%◌, ◌^◌, ◌<◌, ◌≤◌, List, [], ◌∷◌, ◌++◌, map, get_or, sym, refl, ap, ◌∙◌, subst, ap₂, arith}
+use Rattle.std.proofs.Common.{◌≡◌, ℕ, suc, ◌+◌, ◌-◌, ◌*◌, ◌%◌, ◌^◌, ◌<◌, ◌≤◌, List, [], ◌∷◌, ◌++◌, map, get_or, sym, refl, ap, ◌∙◌, ap₂, arith}
 use Prim.Native.String.{String}
-use native.Mathlib.Decide.{dec_lt, ℕ_discrete}
+use native.Mathlib.Decide.{dec_lt}
 use Rattle.exact.specs.Tiling.{join}
 use Rattle.exact.proofs.LawsChoice.{choose_yes, choose_no}
 use Rattle.format.specs.Sound.{All, Fits}
-use Rattle.format.specs.Names.{ascii, decimal, signed, dynamic, dimension, joined, i32, i64}
+use Rattle.format.specs.Names.{ascii, decimal, signed, dimension, joined, i32, i64}
 use Rattle.sheet.specs.Store.{words_in}
 use Rattle.text.specs.Text.{Put}
 use Rattle.text.specs.Counted.{word, words_from, counted}
@@ -29,27 +29,6 @@ unfolding signed
 minus-put h v k l x y =
     let i : h - (v - h) ≡ 2 * h - v = omega arith in
     put_as (sym (choose_no (dec_lt v h) _ _ (omega arith))) (put_then x (put_as (ap decimal i) y))
-
-module _ (k : Number) (v : ℕ) {p q : Pen} {out out' : List ℕ} where
-  by_kind : (j : Number) → k ≡ j → Put (number_text j v) p out out' q → Put (number_text k v) p out out' q
-  by_kind j e x = subst (λ i. Put (number_text i v) p out out' q) (sym e) x
-
-  -- A number of a list is put by its kind.
-  pub i32-put : k ≡ I32 → Put (signed (2 ^ 31) (v % 2 ^ 32)) p out out' q → Put (number_text k v) p out out' q
-  unfolding number_text
-  i32-put e x = by_kind I32 e x
-
-  pub i64-put : k ≡ I64 → Put (signed (2 ^ 63) v) p out out' q → Put (number_text k v) p out out' q
-  unfolding number_text
-  i64-put e x = by_kind I64 e x
-
-  pub dimension-put : k ≡ Dynamic → ¬ (v ≡ dynamic) → Put (signed (2 ^ 63) v) p out out' q → Put (number_text k v) p out out' q
-  unfolding number_text dimension
-  dimension-put e n x = by_kind Dynamic e (put_as (sym (choose_no (ℕ_discrete v dynamic) _ _ n)) x)
-
-  pub dynamic-put : k ≡ Dynamic → v ≡ dynamic → Put (ascii "?") p out out' q → Put (number_text k v) p out out' q
-  unfolding number_text dimension
-  dynamic-put e d x = by_kind Dynamic e (put_as (sym (choose_yes (ℕ_discrete v dynamic) _ _ d)) x)
 
 -- So many numbers from a word on were put, each behind a separator.
 abbrev pub MorePut : Number → ℕ → ℕ → List ℕ → ℕ → Pen → List ℕ → List ℕ → Pen → Type 0

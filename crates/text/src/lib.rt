@@ -8,7 +8,9 @@ ghost use Rattle.std.specs.Prelude.{[], ◌∷◌};
 ghost use Rattle.text.specs.Text.{Put};
 ghost use Rattle.text.specs.declared.Pen.TheVariants.{At};
 
-// Where the next byte is put; or how much room is left, where nothing is put; `Full` where some text had no room.
+// Where the next byte is put; or how much room is left, where nothing is put; `Full` where some text had no room. A
+// cursor by value: each method is lent the buffer, and answers the pen behind what it puts. A full pen is handed on like
+// the others, and puts nothing, so that a text is one chain.
 #[derive(Clone, Copy)]
 pub enum Pen {
     At(usize),
@@ -20,8 +22,7 @@ pub enum Pen {
 fn put_at(out: &mut [u8], at: usize, text: &[u8]) -> Pen
     ensures { Put text.now (At at) out.old out.new result }
 {
-    let size = out.len();
-    let left = if at < size { size - at } else { 0 };
+    let left = out.len().saturating_sub(at);
     if left < text.len() {
         sheet::put_run(out, at, &text[..left]);
         return Pen::Full;
@@ -30,25 +31,25 @@ fn put_at(out: &mut [u8], at: usize, text: &[u8]) -> Pen
     Pen::At(at + text.len())
 }
 
-// Puts a text, as the pen says.
-pub fn put_text(out: &mut [u8], pen: Pen, text: &[u8]) -> Pen
-    ensures { Put text.now pen out.old out.new result }
-{
-    match pen {
-        Pen::At(at) => put_at(out, at, text),
-        Pen::Counting(left) => {
-            if left < text.len() {
-                return Pen::Full;
-            }
-            Pen::Counting(left - text.len())
+impl Pen {
+    // Puts a text, as the pen says.
+    pub fn put_text(self, out: &mut [u8], text: &[u8]) -> Self
+        ensures { Put text.now self out.old out.new result }
+    {
+        match self {
+            Pen::At(at) => put_at(out, at, text),
+            Pen::Counting(left) => match left.checked_sub(text.len()) {
+                Some(rest) => Pen::Counting(rest),
+                None => Pen::Full,
+            },
+            Pen::Full => Pen::Full,
         }
-        Pen::Full => Pen::Full,
     }
-}
 
-// Puts a byte.
-pub fn put_byte(out: &mut [u8], pen: Pen, b: u8) -> Pen
-    ensures { Put (b ∷ []) pen out.old out.new result }
-{
-    put_text(out, pen, &[b])
+    // Puts a byte.
+    pub fn put_byte(self, out: &mut [u8], b: u8) -> Self
+        ensures { Put (b ∷ []) self out.old out.new result }
+    {
+        self.put_text(out, &[b])
+    }
 }

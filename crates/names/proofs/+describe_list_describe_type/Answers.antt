@@ -21,12 +21,6 @@ describe_list-returns-then-left-eq0 t c = list-empty _ c.args.row _ _ c.requires
 pub describe_list-returns-in-Full : goal.describe_list-returns-in-Full
 describe_list-returns-in-Full t c = put-stopped _ c.in-Full.is
 
-pub describe_list-describe_type-named-requires : goal.describe_list-describe_type-named-requires
-describe_list-describe_type-named-requires t c =
-    let r = c.requires.row_in_bounds in
-    let i = c.if-index-row.true in
-    (omega (arith, c.decreases, i), omega (arith, r, i))
-
 pub describe_list-returns-then-left-eq1 : goal.describe_list-returns-then-left-eq1
 describe_list-returns-then-left-eq1 t c =
     let s = c.args.sheet.now in
@@ -49,12 +43,6 @@ describe_list-overflow_add-word t c =
     let z = c.if-left-eq0.false in
     let h = c.requires.left_in_bounds in
     record { fits = omega (arith, w, z, h, c.well_formed.0.0) }
-
-pub describe_list-describe_list-requires : goal.describe_list-describe_list-requires
-describe_list-describe_list-requires t c =
-    let z = c.if-left-eq0.false in
-    let h = c.requires.left_in_bounds in
-    (omega (arith, z, c.decreases), (c.requires.row_in_bounds, omega (arith, z, h)))
 
 pub describe_list-returns : goal.describe_list-returns
 describe_list-returns t c =

@@ -6,9 +6,6 @@ use Rattle.names.proofs.LawsAnswer.{size-within, short-full, short-put}
 use borrow.Author.Rules.{rules}
 use Rattle.names.proofs.put_name.Goals as goal
 
-pub returns-in_default : goal.returns-in_default
-returns-in_default c = record { result_value = c.put_long_name.ensures.result_value; out_after = c.put_long_name.ensures.out_after }
-
 pub returns-then-out-size : goal.returns-then-out-size
 returns-then-out-size c =
     let a = short-full _ _ c.requires _ c.describe_type.ensures _ c.in-At.is _ c.if-out-size.true in

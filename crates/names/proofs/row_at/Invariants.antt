@@ -1,10 +1,6 @@
--- `row_at` passes the rows before the asked one: what is left stands from `word` on. Assumes nothing.
-use Prim.Native.Nat.{◌-◌, ◌≤◌}
+-- `row_at` passes the rows before the asked one: those from here on stand from `word` on. Assumes nothing.
 use Rattle.names.proofs.LawsRows.{RowsFrom}
 use Rattle.names.proofs.row_at.Given as goal
 
-abbrev pub invariant-loop-left : goal.invariant-loop-left
-invariant-loop-left l = (l.left ≤ l.row) × RowsFrom l.sheet l.word (l.row - l.left)
-
-abbrev pub decreases-loop-left : goal.decreases-loop-left
-decreases-loop-left l = l.left
+abbrev pub invariant-loop : goal.invariant-loop
+invariant-loop l = RowsFrom l.sheet l.word l.counter

@@ -4,30 +4,9 @@ use mathlib.Core.Logic.{⊎_elim, ◌⊎◌}
 use Prim.Native.Nat.{◌<◌}
 use native.Mathlib.Omega.{arith}
 use Rattle.format.specs.Types.{plain_tags, among}
-use Rattle.judge.proofs.LawsKinds.{kind-as, kind-pointer, kind-tile, kind-tensor, kind-partition, kind-function, kind-gather, kind-strided, plain-steps, unknown-steps}
+use Rattle.judge.proofs.LawsKinds.{plain-steps, unknown-steps}
 use Rattle.format.proofs.LawsTags.{plain-low}
 use Rattle.judge.proofs.types.judge_fields.Goals as goal
-
-pub returns-in-12 : goal.returns-in-12
-returns-in-12 c = kind-as _ _ _ (kind-pointer c.in-12.is) c.pointer.ensures
-
-pub returns-in-13 : goal.returns-in-13
-returns-in-13 c = kind-as _ _ _ (kind-tile c.in-13.is) c.tile.ensures
-
-pub returns-in-14 : goal.returns-in-14
-returns-in-14 c = kind-as _ _ _ (kind-tensor c.in-14.is) c.tensor_view.ensures
-
-pub returns-in-15 : goal.returns-in-15
-returns-in-15 c = kind-as _ _ _ (kind-partition c.in-15.is) c.partition_view.ensures
-
-pub returns-in-16 : goal.returns-in-16
-returns-in-16 c = kind-as _ _ _ (kind-function c.in-16.is) c.function_type.ensures
-
-pub returns-in-20 : goal.returns-in-20
-returns-in-20 c = kind-as _ _ _ (kind-gather c.in-20.is) c.gather_scatter_view.ensures
-
-pub returns-in-21 : goal.returns-in-21
-returns-in-21 c = kind-as _ _ _ (kind-strided c.in-21.is) c.strided_view.ensures
 
 pub returns-in_default : goal.returns-in_default
 returns-in_default c =

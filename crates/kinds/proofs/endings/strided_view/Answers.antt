@@ -4,5 +4,5 @@ use Rattle.kinds.proofs.endings.strided_view.Goals as goal
 
 pub returns : goal.returns
 returns c =
-    strided-view-ending _ _ _ _ c.put_text-opened.ensures c.put_list-dims.ensures c.put_byte-shut.ensures
+    strided-view-ending _ _ _ _ c.put_text.ensures c.put_list.ensures c.put_byte-dims.ensures
     c.after_list-padding.ensures c.close.ensures

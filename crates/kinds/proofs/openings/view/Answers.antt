@@ -3,4 +3,4 @@ use Rattle.text.proofs.LawsText.{put_then}
 use Rattle.kinds.proofs.openings.view.Goals as goal
 
 pub returns : goal.returns
-returns c = put_then c.shape-shaped.ensures c.put_text.ensures
+returns c = put_then c.shape.ensures c.put_text.ensures
