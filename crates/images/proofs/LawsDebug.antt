@@ -16,7 +16,7 @@ use Rattle.images.specs.Sections.{Holds, lists_bytes, ListsPut, part_in, runs_in
 use Rattle.images.specs.declared.fields.Pen.{Pen}
 use Rattle.images.specs.declared.rows.Row.TheVariants as row
 use Rattle.images.specs.declared.rows.Table.{Table}
-use Rattle.images.specs.declared.sections.Section.TheVariants as section
+use Rattle.enums.specs.declared.Section.TheVariants as section
 use Rattle.images.proofs.LawsPut.{wrote_as}
 use Rattle.images.proofs.LawsFields.{ready-front, copied-then, copied-put, copied-ready, copied-as, copied_runs}
 use Rattle.images.proofs.LawsTables.{padded-as}

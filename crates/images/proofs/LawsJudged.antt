@@ -1,9 +1,10 @@
 -- The answers of writing a judged sheet are the model's. Assumes nothing.
-use Rattle.std.proofs.Common.{◌≡◌, ℕ, ◌+◌, ◌^◌, ◌<◌, ◌≤◌, Bool, true, false, List, [], length, sym, refl, ap, ◌∙◌, subst, inl, inr, zero-add, arith}
+use Rattle.std.proofs.Common.{Result, Ok, Err, ◌≡◌, ℕ, ◌+◌, ◌^◌, ◌<◌, ◌≤◌, Bool, true, false, List, [], length, sym, refl, ap, ◌∙◌, subst, inl, inr, zero-add, arith}
 use native.Mathlib.Decide.{dec_le}
 use mathlib.Core.Option.{some, some-injective}
 use Rattle.exact.proofs.LawsChoice.{choose_yes, choose_no}
 use Rattle.enums.specs.Refusals as refusals
+use Rattle.enums.specs.Numbered.{number_of}
 use Rattle.encoding.specs.Out.{put}
 use Rattle.encoding.proofs.LawsOut.{put_full}
 use Rattle.format.specs.Read.{accepted}
@@ -20,8 +21,8 @@ use Rattle.sheet.proofs.LawsLies.{whole-lies}
 use Rattle.images.specs.Images.{ImagePut}
 use Rattle.images.specs.Starts.{FitTold}
 use Rattle.images.specs.Written.{not_written, image_size, length_of, in_room, with_image, Told, ImageTold, JudgedWritten}
-use Rattle.images.specs.declared.Imaged.{Imaged}
-use Rattle.images.specs.declared.Imaged.TheVariants as told
+use Rattle.enums.specs.declared.Refusal.{Refusal}
+use Rattle.enums.specs.declared.Refusal.TheVariants as refusal
 use Rattle.images.proofs.LawsSheet.{pool-fits}
 use Rattle.images.proofs.LawsWritten.{image-fits, pool-le}
 
@@ -61,7 +62,7 @@ module _ {s pool : List ℕ} {j : Judged} {l : List ℕ} {r : ℕ} (n : j.pool �
   over-size g = record { each = λ t h. let q = size-told t h in omega arith }
 
   -- .. and else its length is the answer.
-  pub told-fine : r ≤ 0x40000000 → ImageTold s j (told.Bytes r)
+  pub told-fine : r ≤ 0x40000000 → ImageTold s j (Ok r)
   unfolding length_of
   told-fine g =
       record {
@@ -74,12 +75,12 @@ module _ {s pool : List ℕ} {j : Judged} {l : List ℕ} {r : ℕ} (n : j.pool �
 
 -- What is over the limit has a start that does not fit, or not.
 module _ {s : List ℕ} {j : Judged} {b : Bool} (o : Over s j) (x : FitTold j.class s b) where
-  pub told-limit : b ≡ true → ImageTold s j (told.Refused refusals.limit)
+  pub told-limit : b ≡ true → ImageTold s j (Err refusal.Limit)
   unfolding length_of
   told-limit e =
       record { each = λ t h. ap length_of (sym (image-large t ((x.each t h.holds).holds e) (o.each t h))) }
 
-  pub told-start : b ≡ false → ImageTold s j (told.Refused refusals.start_too_large)
+  pub told-start : b ≡ false → ImageTold s j (Err refusal.Start)
   unfolding length_of
   told-start e = record { each = λ t h. ap length_of (sym (start-large t ((x.each t h.holds).fails e))) }
 
@@ -115,18 +116,18 @@ fine-as size out out' t (writes bs) q e h f =
 fine-as size out out' t (refuses k) q e h f = let z : ◌≡◌ {A = ℕ} 0 1 = cc in absurd (omega (arith, z))
 
 -- A refusal leaves the output, ..
-pub written-refused : {s pool out kept : List ℕ} {j : Judged} {n : ℕ} {r : Imaged} → ImageTold s j r → kept ≡ out → r ≡ told.Refused n →
-    JudgedWritten s j pool out kept (told.Refused n)
+pub written-refused : {s pool out kept : List ℕ} {j : Judged} {n : Refusal} {r : Result ℕ Refusal} → ImageTold s j r → kept ≡ out → r ≡ Err n →
+    JudgedWritten s j pool out kept (Err n)
 written-refused {out = out} {n = n} x o e =
     record {
       each =
           λ t h q.
-          let p = refused_as n (length out) out (imaged (some t)) (sym (ap image_size e) ∙ x.each t h) in (p.0, o ∙ p.1);
+          let p = refused_as (number_of n) (length out) out (imaged (some t)) (sym (ap image_size e) ∙ x.each t h) in (p.0, o ∙ p.1);
     }
 
 -- .. so does one that has no room, ..
-pub written_small : {s pool out kept : List ℕ} {j : Judged} {size : ℕ} {r : Imaged} → ImageTold s j r → kept ≡ out → r ≡ told.Bytes size →
-    length kept < size → JudgedWritten s j pool out kept (told.Refused refusals.full)
+pub written_small : {s pool out kept : List ℕ} {j : Judged} {size : ℕ} {r : Result ℕ Refusal} → ImageTold s j r → kept ≡ out → r ≡ Ok size →
+    length kept < size → JudgedWritten s j pool out kept (Err refusal.Full)
 written_small {out = out} {kept = kept} {size = size} x o e g =
     record {
       each =
@@ -136,8 +137,8 @@ written_small {out = out} {kept = kept} {size = size} x o e g =
     }
 
 -- .. and else the image is put.
-pub written-fine : {s pool out kept out' : List ℕ} {j : Judged} {size next : ℕ} {r : Imaged} → ImageTold s j r → kept ≡ out →
-    r ≡ told.Bytes size → size ≤ length kept → ImagePut j.class s pool kept out' next → JudgedWritten s j pool out out' (told.Bytes size)
+pub written-fine : {s pool out kept out' : List ℕ} {j : Judged} {size next : ℕ} {r : Result ℕ Refusal} → ImageTold s j r → kept ≡ out →
+    r ≡ Ok size → size ≤ length kept → ImagePut j.class s pool kept out' next → JudgedWritten s j pool out out' (Ok size)
 written-fine {s} {pool} {out} {kept} {out'} {j} {size} {next} x o e g y =
     record {
       each =

@@ -18,7 +18,7 @@ use Rattle.images.specs.declared.fields.Pen.{Pen}
 use Rattle.images.specs.declared.rows.Row.{Row}
 use Rattle.images.specs.declared.rows.Row.TheVariants as row
 use Rattle.images.specs.declared.rows.Table.{Table}
-use Rattle.images.specs.declared.sections.Section.TheVariants as section
+use Rattle.enums.specs.declared.Section.TheVariants as section
 use Rattle.images.proofs.LawsFields.{copied-then, copied-nil, copied-put, copied-as, copied_runs}
 use Rattle.images.proofs.LawsSheet.{
   strings-placed,

@@ -8,18 +8,15 @@ ghost use Rattle.images.specs.Images.{is_some, Presence, Opens, Aligned, Alignme
 
 use crate::fields::Pen;
 use crate::put::{put_byte, put_le, put_varint};
-use crate::sections::{Section, put_payload};
+use crate::sections::put_payload;
 use crate::tables::put_count;
-use enums::VersionClass;
+use enums::{Section, VersionClass};
 
 // Whether a word of the sheet is not 0.
 fn is_some(sheet: &[u8], word: usize) -> bool
     ensures { result ≡ is_some (slice_index (words_in sheet.now) word) }
 {
-    if 0 < sheet::word_at(sheet, word) {
-        return true;
-    }
-    false
+    sheet::word_at(sheet, word) != 0
 }
 
 // Whether a section is written: nonempty tables only; Debug if either of its tables has rows; Producer if named.
@@ -33,53 +30,41 @@ fn is_present(sheet: &[u8], section: Section) -> bool
         Section::Constant => is_some(sheet, 10),
         Section::Global => is_some(sheet, 12),
         Section::Func => is_some(sheet, 14),
-        Section::Debug => {
-            if is_some(sheet, 18) {
-                return true;
-            }
-            is_some(sheet, 16)
-        }
+        Section::Debug => is_some(sheet, 18) || is_some(sheet, 16),
+    }
+}
+
+// The alignment of a section that has one.
+#[tactic(auto, unfolding(crate::specs::Sections::part_in, format::specs::Image::string_part, format::specs::Image::producer_part, format::specs::Image::type_part, format::specs::Image::constant_part, format::specs::Image::global_part, format::specs::Image::function_part, format::specs::Image::debug_part))]
+fn alignment_of(section: Section) -> Option<usize>
+    ensures { Aligned section result }
+{
+    match section {
+        Section::String | Section::Type => Some(4),
+        Section::Constant | Section::Debug => Some(8),
+        Section::Producer | Section::Global | Section::Func => None,
     }
 }
 
 // The id, with the top bit if there is an alignment.
+#[tactic(auto, unfolding(crate::specs::Sections::part_in, format::specs::Image::first_byte, format::specs::Image::string_part, format::specs::Image::producer_part, format::specs::Image::type_part, format::specs::Image::constant_part, format::specs::Image::global_part, format::specs::Image::function_part, format::specs::Image::debug_part))]
 fn first_byte(section: Section) -> u8
     ensures { Opens section result }
 {
-    match section {
-        Section::String => enums::Section::STRING + 0x80,
-        Section::Producer => enums::Section::PRODUCER,
-        Section::Type => enums::Section::TYPE + 0x80,
-        Section::Constant => enums::Section::CONSTANT + 0x80,
-        Section::Global => enums::Section::GLOBAL,
-        Section::Func => enums::Section::FUNC,
-        Section::Debug => enums::Section::DEBUG + 0x80,
+    match alignment_of(section) {
+        Some(_) => section.id() + 0x80,
+        None => section.id(),
     }
 }
 
-// The alignment of a section; 0 where it has none.
-fn alignment_of(section: Section) -> usize
-    ensures { Aligned section result }
-{
-    match section {
-        Section::String => 4,
-        Section::Producer => 0,
-        Section::Type => 4,
-        Section::Constant => 8,
-        Section::Global => 0,
-        Section::Func => 0,
-        Section::Debug => 8,
-    }
-}
-
-// The alignment and the padding, which counts from the file's start, of a section that has one.
-fn put_alignment(out: &mut [u8], at: usize, alignment: usize) -> usize
+// The alignment, if there is one, and the padding, which counts from the file's start.
+fn put_alignment(out: &mut [u8], at: usize, alignment: Option<usize>) -> usize
     ensures { AlignmentPut alignment at out.old out.new result }
 {
-    if alignment == 0 {
-        return at;
+    match alignment {
+        Some(alignment) => put_count(out, 0, at, alignment as u64, alignment),
+        None => at,
     }
-    put_count(out, 0, at, alignment as u64, alignment)
 }
 
 // How far a payload takes the pen from place 0, without its bytes: its length, and where the pool goes on.
@@ -190,5 +175,5 @@ pub fn put_image(sheet: &[u8], pool: &[u8], class: VersionClass, out: &mut [u8])
     let globals = put_section(sheet, pool, class, Section::Global, out, constants);
     let functions = put_section(sheet, pool, class, Section::Func, out, globals);
     let debug = put_section(sheet, pool, class, Section::Debug, out, functions);
-    put_byte(out, debug.at, enums::Section::END_OF_BYTECODE)
+    put_byte(out, debug.at, Section::END_OF_BYTECODE)
 }

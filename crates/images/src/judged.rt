@@ -2,7 +2,6 @@
 ghost use Rattle.std.specs.Prelude.{◌≡◌};
 ghost use Rattle.images.specs.Written.{ImageTold, JudgedWritten};
 
-use crate::Imaged;
 use crate::container::put_image;
 use crate::starts::starts_fit;
 use enums::Refusal;
@@ -16,7 +15,12 @@ const MOST_POOL: u64 = 0xC000_0000;
 
 // How long the image of a judged sheet is: 1 where it is over its limit, but 13 where a start does not fit. All starts
 // fit in an image within the limit.
-pub fn image_length(sheet: &[u8], judged: Judged, pool: &[u8], out: &mut [u8]) -> Imaged
+pub fn image_length(
+    sheet: &[u8],
+    judged: Judged,
+    pool: &[u8],
+    out: &mut [u8],
+) -> Result<usize, Refusal>
     ensures image_told { ImageTold sheet.now judged result }
     ensures out_unchanged { out.new ≡ out.old }
 {
@@ -24,28 +28,28 @@ pub fn image_length(sheet: &[u8], judged: Judged, pool: &[u8], out: &mut [u8]) -
     if judged.pool <= MOST_POOL {
         let size = put_image(sheet, pool, class, &mut out[0..0]);
         if size <= MOST_BYTES {
-            return Imaged::Bytes(size);
+            return Ok(size);
         }
     }
     if starts_fit(sheet, pool, class, out) {
-        return Imaged::Refused(Refusal::LIMIT);
+        return Err(Refusal::Limit);
     }
-    Imaged::Refused(Refusal::START)
+    Err(Refusal::Start)
 }
 
 // Writes the image of a judged sheet and its pool: 11 where the output is smaller.
-pub fn write_judged(sheet: &[u8], judged: Judged, pool: &[u8], out: &mut [u8]) -> Imaged
+pub fn write_judged(
+    sheet: &[u8],
+    judged: Judged,
+    pool: &[u8],
+    out: &mut [u8],
+) -> Result<usize, Refusal>
     ensures { JudgedWritten sheet.now judged pool.now out.old out.new result }
 {
-    match image_length(sheet, judged, pool, out) {
-        Imaged::Refused(n) => Imaged::Refused(n),
-        Imaged::Bytes(size) => {
-            if out.len() < size {
-                return Imaged::Refused(Refusal::FULL);
-            }
-            let class = judged.class;
-            put_image(sheet, pool, class, out);
-            Imaged::Bytes(size)
-        }
+    let size = image_length(sheet, judged, pool, out)?;
+    if out.len() < size {
+        return Err(Refusal::Full);
     }
+    put_image(sheet, pool, judged.class, out);
+    Ok(size)
 }

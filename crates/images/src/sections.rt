@@ -4,7 +4,7 @@ ghost use Rattle.exact.specs.Tiling.{join};
 ghost use Rattle.enums.specs.declared.VersionClass.{VersionClass};
 ghost use Rattle.encoding.specs.Varint.{spelling};
 ghost use Rattle.sheet.specs.Store.{words_in};
-ghost use Rattle.images.specs.declared.sections.Section.TheVariants as parts;
+ghost use Rattle.enums.specs.declared.Section.TheVariants as parts;
 ghost use Rattle.images.specs.Rows.{row_bytes, RowsPut};
 ghost use Rattle.images.specs.Sections.{ListsPut, PayloadPut};
 
@@ -12,19 +12,7 @@ use crate::fields::Pen;
 use crate::put::put_varint;
 use crate::rows::{Row, Table, put_rows};
 use crate::tables::{put_count, put_list_starts, put_table};
-use enums::VersionClass;
-
-// The sections, in the order in which they are written.
-#[derive(Clone, Copy)]
-pub enum Section {
-    String,
-    Producer,
-    Type,
-    Constant,
-    Global,
-    Func,
-    Debug,
-}
+use enums::{Section, VersionClass};
 
 // The table whose start and count are the words `contents` and the next.
 pub fn table_at(sheet: &[u8], contents: usize, row: Row, width: usize) -> Table

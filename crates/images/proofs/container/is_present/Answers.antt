@@ -2,9 +2,6 @@
 use Rattle.images.proofs.LawsImage.{string-there, producer-there, type-there, constant-there, global-there, function-there, lists-there, attributes-there}
 use Rattle.images.proofs.container.is_present.Goals as goal
 
-pub returns-then-is_some : goal.returns-then-is_some
-returns-then-is_some c = rw c.in-Debug.is (lists-there c.is_some-in-Debug.ensures c.if-is_some.true)
-
 pub returns-in-String : goal.returns-in-String
 returns-in-String c = rw c.in-String.is (string-there c.is_some.ensures)
 
@@ -23,6 +20,9 @@ returns-in-Global c = rw c.in-Global.is (global-there c.is_some-in-Global.ensure
 pub returns-in-Func : goal.returns-in-Func
 returns-in-Func c = rw c.in-Func.is (function-there c.is_some-in-Func.ensures)
 
+pub returns-then-is_some : goal.returns-then-is_some
+returns-then-is_some c = rw c.in-Debug.is (lists-there c.is_some-in-Debug.ensures c.if-is_some.true)
+
 pub returns-else-is_some : goal.returns-else-is_some
 returns-else-is_some c =
-    rw c.in-Debug.is (attributes-there c.is_some-in-Debug.ensures c.if-is_some.false c.is_some-in-Debug-2.ensures)
+    rw c.in-Debug.is (attributes-there c.is_some-in-Debug.ensures c.if-is_some.false c.is_some-else-is_some.ensures)

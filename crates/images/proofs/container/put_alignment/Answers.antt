@@ -2,8 +2,8 @@
 use Rattle.images.proofs.LawsImage.{alignment-none, alignment-some}
 use Rattle.images.proofs.container.put_alignment.Goals as goal
 
-pub returns-then-alignment-eq0 : goal.returns-then-alignment-eq0
-returns-then-alignment-eq0 c = alignment-none _ _ c.if-alignment-eq0.true
+pub returns-in-Some : goal.returns-in-Some
+returns-in-Some c = rw c.in-Some.is (alignment-some _ c.put_count.ensures)
 
-pub returns : goal.returns
-returns c = alignment-some _ c.if-alignment-eq0.false c.put_count.ensures
+pub returns-in-None : goal.returns-in-None
+returns-in-None c = rw c.in-None.is (alignment-none _ _)
