@@ -1,5 +1,5 @@
 -- Sections one after the other, between the header and the end id, are the image. Assumes nothing.
-use Rattle.std.proofs.Common.{◌≡◌, ℕ, zero, suc, ◌+◌, ◌%◌, ◌^◌, ◌<◌, ◌≤◌, Bool, true, false, cond, ◌||◌, List, [], ◌∷◌, ◌++◌, map, length, get_or, drop, sym, refl, ap, ◌∙◌, subst, ap₂, inr, true≢false, not, nat_eq, Some, None, append-nil, add-zero, mod-eq_of_lt, zero-add, add-one, arith, length-append, length-drop, drop-cons}
+use Rattle.std.proofs.Common.{◌≡◌, ℕ, zero, suc, ◌+◌, ◌%◌, ◌^◌, ◌<◌, Bool, true, false, cond, ◌||◌, List, [], ◌∷◌, ◌++◌, map, length, get_or, sym, refl, ap, ◌∙◌, subst, ap₂, inr, true≢false, not, nat_eq, Some, None, append-nil, add-zero, mod-eq_of_lt, zero-add, arith, length-append}
 use Rattle.std.proofs.lemmas.Bool.Decides.{nat_tests}
 use mathlib.Core.Option.{Option, none, some}
 use Rattle.std.specs.Prelude as answer
@@ -192,12 +192,11 @@ module _ {k : Section} {c : VersionClass} {s pool : List ℕ} {n1 n2 n3 b0 : ℕ
 
 -- A section that is written ..
 pub section-put : {k : Section} {c : VersionClass} {s pool : List ℕ} {n1 n2 n3 b0 : ℕ} {a0 : answer.Option ℕ} {p m q : Pen} {there : Bool}
-    {out kept m1 m2 m3 out' : List ℕ} → Presence k s there → there ≡ true →
-    PayloadPut k c s pool (record { word = p.word; run = p.run; at = 0 }) [] [] m → kept ≡ out → Opens k b0 →
-    Wrote (b0 ∷ []) p.at kept m1 n1 → Wrote (spelling m.at) n1 m1 m2 n2 → Aligned k a0 → AlignmentPut a0 n2 m2 m3 n3 →
+    {out m1 m2 m3 out' : List ℕ} → Presence k s there → there ≡ true →
+    PayloadPut k c s pool (record { word = p.word; run = p.run; at = 0 }) [] [] m → Opens k b0 →
+    Wrote (b0 ∷ []) p.at out m1 n1 → Wrote (spelling m.at) n1 m1 m2 n2 → Aligned k a0 → AlignmentPut a0 n2 m2 m3 n3 →
     PayloadPut k c s pool (record { word = p.word; run = p.run; at = n3 }) m3 out' q → SectionPut k c s pool p out out' q
-section-put {n1 = n1} {b0 = b0} {p = p} {m1 = m1} g gy w e o x y l a z =
-    record { each = section-each g gy w o (subst (λ l. Wrote (b0 ∷ []) p.at l m1 n1) e x) y l a z }
+section-put g gy w o x y l a z = record { each = section-each g gy w o x y l a z }
 
 -- .. and one that is not has no runs either.
 no_rows : {A : Type 0} (xs : List A) → has_rows xs ≡ false → xs ≡ []
@@ -332,10 +331,3 @@ image-put {s = s} {pool} {n0} {r} {p7 = p7} {out = out} {m0 = m0} {out' = out'} 
             bytes_fit = omega arith;
           })).puts;
     }
-
--- The bytes of a list from place i on.
-pub bytes_next : (l : List ℕ) (i : ℕ) → i < length l → drop i l ≡ get_or l i 0 ∷ drop (i + 1) l
-bytes_next l i h = drop-cons l i 0 h ∙ ap (λ n. get_or l i 0 ∷ drop n l) (sym (add-one i))
-
-pub bytes-end : (l : List ℕ) (i : ℕ) → length l ≤ i → drop i l ≡ []
-bytes-end l i h = let e = length-drop i l in no_length (drop i l) (omega arith)

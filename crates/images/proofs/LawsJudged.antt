@@ -116,35 +116,32 @@ fine-as size out out' t (writes bs) q e h f =
 fine-as size out out' t (refuses k) q e h f = let z : ◌≡◌ {A = ℕ} 0 1 = cc in absurd (omega (arith, z))
 
 -- A refusal leaves the output, ..
-pub written-refused : {s pool out kept : List ℕ} {j : Judged} {n : Refusal} {r : Result ℕ Refusal} → ImageTold s j r → kept ≡ out → r ≡ Err n →
-    JudgedWritten s j pool out kept (Err n)
-written-refused {out = out} {n = n} x o e =
+pub written-refused : {s pool out : List ℕ} {j : Judged} {n : Refusal} {r : Result ℕ Refusal} → ImageTold s j r → r ≡ Err n →
+    JudgedWritten s j pool out out (Err n)
+written-refused {out = out} {n = n} x e =
     record {
       each =
           λ t h q.
-          let p = refused_as (number_of n) (length out) out (imaged (some t)) (sym (ap image_size e) ∙ x.each t h) in (p.0, o ∙ p.1);
+          refused_as (number_of n) (length out) out (imaged (some t)) (sym (ap image_size e) ∙ x.each t h);
     }
 
 -- .. so does one that has no room, ..
-pub written_small : {s pool out kept : List ℕ} {j : Judged} {size : ℕ} {r : Result ℕ Refusal} → ImageTold s j r → kept ≡ out → r ≡ Ok size →
-    length kept < size → JudgedWritten s j pool out kept (Err refusal.Full)
-written_small {out = out} {kept = kept} {size = size} x o e g =
+pub written_small : {s pool out : List ℕ} {j : Judged} {size : ℕ} {r : Result ℕ Refusal} → ImageTold s j r → r ≡ Ok size →
+    length out < size → JudgedWritten s j pool out out (Err refusal.Full)
+written_small {out = out} {size = size} x e g =
     record {
       each =
           λ t h q.
-          let l : length out < size = subst (λ z. length z < size) o g in
-          let p = small-as size out (imaged (some t)) (sym (ap image_size e) ∙ x.each t h) l in (p.0, o ∙ p.1);
+          small-as size out (imaged (some t)) (sym (ap image_size e) ∙ x.each t h) g;
     }
 
 -- .. and else the image is put.
-pub written-fine : {s pool out kept out' : List ℕ} {j : Judged} {size next : ℕ} {r : Result ℕ Refusal} → ImageTold s j r → kept ≡ out →
-    r ≡ Ok size → size ≤ length kept → ImagePut j.class s pool kept out' next → JudgedWritten s j pool out out' (Ok size)
-written-fine {s} {pool} {out} {kept} {out'} {j} {size} {next} x o e g y =
+pub written-fine : {s pool out out' : List ℕ} {j : Judged} {size next : ℕ} {r : Result ℕ Refusal} → ImageTold s j r →
+    r ≡ Ok size → size ≤ length out → ImagePut j.class s pool out out' next → JudgedWritten s j pool out out' (Ok size)
+written-fine {pool = pool} {out = out} {out' = out'} {size = size} x e g y =
     record {
       each =
           λ t h q.
-          let l : size ≤ length out = subst (λ z. size ≤ length z) o g in
-          let y' = subst (λ z. ImagePut j.class s pool z out' next) o y in
-          fine-as size out out' t (imaged (some t)) refl (sym (ap image_size e) ∙ x.each t h) l
-          (λ b m. (y'.each t h.holds (inl (subst (Lies pool 0) q (whole-lies pool))) (pool-fits t h.holds.sound) b).output (rw zero-add m));
+          fine-as size out out' t (imaged (some t)) refl (sym (ap image_size e) ∙ x.each t h) g
+          (λ b m. (y.each t h.holds (inl (subst (Lies pool 0) q (whole-lies pool))) (pool-fits t h.holds.sound) b).output (rw zero-add m));
     }

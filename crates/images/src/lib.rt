@@ -8,6 +8,7 @@ mod judged;
 mod put;
 mod rows;
 mod sections;
+mod source;
 mod starts;
 mod tables;
 mod types;
@@ -29,8 +30,7 @@ pub fn image(sheet: &[u8]) -> Result<usize, Refusal>
         SheetJudged::Stop => Err(Refusal::Sheet),
         SheetJudged::Passed(judged) => {
             let pool: [u8; 0] = [];
-            let mut out: [u8; 0] = [];
-            judged::image_length(sheet, judged, &pool, &mut out)
+            judged::image_length(sheet, judged, &pool)
         }
     }
 }

@@ -14,7 +14,7 @@ pub fn put_byte(out: &mut [u8], at: usize, b: u8) -> usize
     if at < out.len() {
         out[at] = b;
     }
-    std::num::wrapping_add_usize(at, 1)
+    at.wrapping_add(1)
 }
 
 // Puts a varint, in its shortest spelling. Most values are below 128 and take one byte: they take no loop, whether the
@@ -39,12 +39,10 @@ pub fn put_le(out: &mut [u8], at: usize, value: u64, width: usize) -> usize
     ensures { Wrote (bytes_of width value) at out.old out.new result }
 {
     let mut rest = value;
-    let mut left = width;
     let mut next = at;
-    while 0 < left {
+    for _ in 0..width {
         next = put_byte(out, next, (rest % 256) as u8);
         rest = rest / 256;
-        left -= 1;
     }
     next
 }
@@ -63,11 +61,9 @@ fn padding_to(alignment: usize, place: usize) -> usize
 pub fn put_padding(out: &mut [u8], at: usize, alignment: usize, place: usize) -> usize
     ensures { Wrote (replicate (gap alignment place) P) at out.old out.new result }
 {
-    let mut left = padding_to(alignment, place);
     let mut next = at;
-    while 0 < left {
+    for _ in 0..padding_to(alignment, place) {
         next = put_byte(out, next, enums::ALIGNMENT_BYTE);
-        left -= 1;
     }
     next
 }
@@ -76,13 +72,8 @@ pub fn put_padding(out: &mut [u8], at: usize, alignment: usize, place: usize) ->
 pub fn put_pool(pool: &[u8], from: usize, len: usize, out: &mut [u8], at: usize) -> usize
     ensures { RunPut pool.now «from» len at out.old out.new result }
 {
-    let next = std::num::wrapping_add_usize(at, len);
-    if pool.len() < from {
-        return next;
+    if from <= pool.len() && len <= pool.len() - from {
+        sheet::put_run(out, at, &pool[from..from + len]);
     }
-    if pool.len() - from < len {
-        return next;
-    }
-    sheet::put_run(out, at, &pool[from..from + len]);
-    next
+    at.wrapping_add(len)
 }

@@ -10,4 +10,4 @@ pub returns-in-Passed : goal.returns-in-Passed
 returns-in-Passed c =
     let s = c.args.sheet.now in
     let short : length s < 2 ^ 63 = omega (arith, c.well_formed) in
-    image-passed s c.judge.ensures c.in-Passed.is short c.image_length.ensures.image_told
+    image-passed s c.judge.ensures c.in-Passed.is short c.image_length.ensures

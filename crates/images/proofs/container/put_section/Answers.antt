@@ -6,8 +6,8 @@ pub returns-then-not-is_present : goal.returns-then-not-is_present
 returns-then-not-is_present c = section-none _ c.is_present.ensures c.if-not-is_present.true
 
 pub put_measured-requires : goal.put_measured-requires
-put_measured-requires c = c.measure_payload-measured.ensures.payload_put
+put_measured-requires c = c.measure_payload-measured.ensures
 
 pub returns : goal.returns
 returns c =
-    section-put c.is_present.ensures c.if-not-is_present.false c.measure_payload-measured.ensures.payload_put c.measure_payload-measured.ensures.out_unchanged c.first_byte.ensures c.put_byte-first.ensures c.put_varint-length.ensures c.alignment_of.ensures c.put_alignment.ensures c.put_measured.ensures
+    section-put c.is_present.ensures c.if-not-is_present.false c.measure_payload-measured.ensures c.first_byte.ensures c.put_byte-first.ensures c.put_varint-length.ensures c.alignment_of.ensures c.put_alignment-begin.ensures c.put_measured.ensures

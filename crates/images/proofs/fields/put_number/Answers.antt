@@ -1,6 +1,5 @@
 -- `put_number` puts a number as it stands in the file. Assumes nothing.
 use Rattle.images.specs.Fields.{bytes_as}
-use Rattle.images.proofs.LawsPut.{wrote-nil}
 use Rattle.images.proofs.fields.put_number.Goals as goal
 
 pub returns-in-Varint : goal.returns-in-Varint
@@ -18,7 +17,3 @@ returns-in-I32 c = rw c.in-I32.is c.put_le-in-I32.ensures
 pub returns-in-I64 : goal.returns-in-I64
 unfolding bytes_as
 returns-in-I64 c = rw c.in-I64.is c.put_le-in-I64.ensures
-
-pub returns-in-Absent : goal.returns-in-Absent
-unfolding bytes_as
-returns-in-Absent c = rw c.in-Absent.is (wrote-nil _ _)

@@ -16,4 +16,4 @@ returns c =
       | then-at-out w ↦ w.out-is ∙ put_one out at b (omega arith)
       | else-at-out w ↦ w.out-is ∙ sym (put_full out at (b ∷ []) (omega arith))
     ] in
-    wrote-run _ 1 _ _ _ _ refl stored c.wrapping_add_usize.ensures.value
+    wrote-run _ 1 _ _ _ _ refl stored refl

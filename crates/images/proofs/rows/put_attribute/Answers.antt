@@ -14,5 +14,5 @@ returns c v pool =
     record {
       each =
           λ a h.
-          attribute-copied a h c.word_at.ensures c.field_count-count.ensures c.copy_number-tag.ensures c.copy_numbers-fields.ensures c.copy_numbers.ensures;
+          attribute-copied a h c.word_at.ensures c.field_count-count.ensures c.copy_number-tag.ensures c.copy_numbers-fields.ensures c.skip_words.ensures;
     }

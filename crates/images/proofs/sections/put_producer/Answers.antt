@@ -2,9 +2,9 @@
 use Rattle.images.proofs.LawsSections.{producer-named, producer-unnamed}
 use Rattle.images.proofs.sections.put_producer.Goals as goal
 
-pub returns-then-producer-gt0 : goal.returns-then-producer-gt0
-returns-then-producer-gt0 c v pool =
-    producer-named c.word_at-producer.ensures c.if-producer-gt0.true c.put_varint-next.ensures
+pub returns-in-Some : goal.returns-in-Some
+returns-in-Some c v pool =
+    producer-named c.word_at.ensures c.in-Some.ensures.0 c.in-Some.ensures.1 c.put_varint.ensures
 
-pub returns : goal.returns
-returns c v pool = producer-unnamed _ c.word_at-producer.ensures c.if-producer-gt0.false
+pub returns-in-None : goal.returns-in-None
+returns-in-None c v pool = producer-unnamed _ c.word_at.ensures c.in-None.ensures

@@ -8,7 +8,7 @@ returns-then-from_13_3 c =
     partition-new _ (sym c.from_13_3.ensures ∙ c.if-from_13_3.true)
     c.new_partition_view.ensures
 
-pub returns : goal.returns
-returns c =
+pub returns-else-from_13_3 : goal.returns-else-from_13_3
+returns-else-from_13_3 c =
     partition-old _ (sym c.from_13_3.ensures ∙ c.if-from_13_3.false)
     c.old_partition_view.ensures

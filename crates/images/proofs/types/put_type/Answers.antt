@@ -4,4 +4,4 @@ use Rattle.images.proofs.types.put_type.Goals as goal
 
 pub returns : goal.returns
 returns c =
-    type-copied c.args.«class» _ _ c.copy_number-count.ensures c.word_at-tag.ensures c.copy_number-first.ensures c.put_fields.ensures
+    type-copied c.args.«class» _ _ c.skip_words-count.ensures c.word_at-tag.ensures c.copy_number-first.ensures c.put_fields.ensures
