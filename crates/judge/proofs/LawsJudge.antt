@@ -8,7 +8,7 @@ use mathlib.Core.List.{List, [], ◌∷◌, map}
 use mathlib.Core.Option.{Option, none, some}
 use lib.Dec.{eqb, ltb, leb}
 use lib.ListN.{length, get_or, length-map}
-use borrow.Author.Tests.{lt-ltb, le-ltb, le-leb, eq-eqb, ne_eqb, ltb-true, leb-true, eqb-true}
+use borrow.Author.Tests.{lt-ltb, le-leb, eq-eqb, leb-true, eqb-true}
 use Rattle.exact.specs.Got.{Got, got, stop}
 use Rattle.exact.specs.Choice.{choose}
 use Rattle.exact.specs.Fixed.{raw}
@@ -26,72 +26,83 @@ use Rattle.format.proofs.LawsFrame.{judged-exact}
 use Rattle.sheet.specs.Store.{words_in}
 use Rattle.sheet.proofs.LawsWords.{length-words_in, word_below}
 use Rattle.judge.specs.declared.Judged.{Judged}
+use Rattle.std.specs.Prelude.{Some, None}
+use Rattle.std.specs.Prelude as code
 use Rattle.judge.specs.declared.steps.Place.{Place}
-use Rattle.judge.specs.declared.steps.Place.TheVariants.{At, Stop}
 use Rattle.judge.specs.declared.rows.Rows.TheVariants.{Lengths, Types, Globals, Functions, Attributes, Lists}
-use Rattle.judge.specs.Steps.{thru, only, holds, kept}
+use Rattle.judge.specs.Steps.{◌>>=◌, thru, only, holds, place, kept}
 use Rattle.judge.specs.Rows.{row_after, table_after, tables_after}
-use Rattle.judge.specs.Judge.{judged_bytes, not_sound, summary, head_fits}
-use Rattle.judge.proofs.LawsThru.{thru-bind, thru-map, thru-such, only-thru, kept_at}
+use Rattle.judge.specs.Judge.{judged_bytes, not_sound, judged_read, summary, head_fits, head_class}
+use Rattle.judge.proofs.LawsThru.{thru-bind, thru-map, thru-such, only-thru, then-thru, then-only, kept_at}
 use Rattle.judge.proofs.LawsTests.{holds_same, holds-both, holds_fits, holds-eq, holds-yes}
 use Rattle.judge.proofs.LawsSteps.{word_at, words-at, words-end}
 use Rattle.judge.proofs.LawsKinds.{both_true, no_true}
 use Rattle.judge.proofs.LawsRows.{field}
-use Rattle.judge.proofs.LawsTables.{thru-with, thru-same, sum_by, sum-lengths, sum-bodies, strings-counted, table-thru, table-only, table_none, contents, kept_table, spent-table}
+use Rattle.judge.proofs.LawsTables.{thru-with, thru-same, sum_by, sum-lengths, sum-bodies, strings-counted, contents, kept_table, spent-table}
 
 -- The seven tables, each behind the one before it.
-module _ (c : VersionClass) (l : List ℕ) (i left : ℕ) where
-  strings-at : table_after Lengths c 5 l (At i left) ≡
-      thru Stop (table_at (contents l) 0 word l i) (λ vs j. only Stop (leb (sum_by (λ n. n) vs) left) (At j (left - sum_by (λ n. n) vs)))
+module _ (c : VersionClass) (l : List ℕ) (at : Place) where
+  strings-at : table_after Lengths c 5 l at ≡
+      thru None (table_at (contents l) 0 word l at.word)
+      (λ vs j. only None (leb (sum_by (λ n. n) vs) at.left) (Some (place j (at.left - sum_by (λ n. n) vs))))
   unfolding row_after
-  strings-at = spent-table c l 0 (omega arith) Lengths i left word (λ n. n) refl
+  strings-at = spent-table c l 0 (omega arith) Lengths at word (λ n. n) refl
 
-  types-at : table_after Types c 7 l (At i left) ≡ thru Stop (table_at (contents l) 1 (type_at c) l i) (λ vs j. At j left)
+  types-at : table_after Types c 7 l at ≡ thru None (table_at (contents l) 1 (type_at c) l at.word) (λ vs j. Some (place j at.left))
   unfolding row_after
-  types-at = kept_table c l 1 (omega arith) Types i left (type_at c) refl
+  types-at = kept_table c l 1 (omega arith) Types at (type_at c) refl
 
-  constants-at : table_after Lengths c 9 l (At i left) ≡
-      thru Stop (table_at (contents l) 2 word l i) (λ vs j. only Stop (leb (sum_by (λ n. n) vs) left) (At j (left - sum_by (λ n. n) vs)))
+  constants-at : table_after Lengths c 9 l at ≡
+      thru None (table_at (contents l) 2 word l at.word)
+      (λ vs j. only None (leb (sum_by (λ n. n) vs) at.left) (Some (place j (at.left - sum_by (λ n. n) vs))))
   unfolding row_after
-  constants-at = spent-table c l 2 (omega arith) Lengths i left word (λ n. n) refl
+  constants-at = spent-table c l 2 (omega arith) Lengths at word (λ n. n) refl
 
-  globals-at : table_after Globals c 11 l (At i left) ≡ thru Stop (table_at (contents l) 3 (global_at c) l i) (λ vs j. At j left)
+  globals-at : table_after Globals c 11 l at ≡ thru None (table_at (contents l) 3 (global_at c) l at.word) (λ vs j. Some (place j at.left))
   unfolding row_after
-  globals-at = kept_table c l 3 (omega arith) Globals i left (global_at c) refl
+  globals-at = kept_table c l 3 (omega arith) Globals at (global_at c) refl
 
-  functions-at : table_after Functions c 13 l (At i left) ≡
-      thru Stop (table_at (contents l) 4 function_at l i)
-      (λ vs j. only Stop (leb (sum_by (λ f. f.body_length) vs) left) (At j (left - sum_by (λ f. f.body_length) vs)))
+  functions-at : table_after Functions c 13 l at ≡
+      thru None (table_at (contents l) 4 function_at l at.word)
+      (λ vs j. only None (leb (sum_by (λ f. f.body_length) vs) at.left) (Some (place j (at.left - sum_by (λ f. f.body_length) vs))))
   unfolding row_after
-  functions-at = spent-table c l 4 (omega arith) Functions i left function_at (λ f. f.body_length) refl
+  functions-at = spent-table c l 4 (omega arith) Functions at function_at (λ f. f.body_length) refl
 
-  attributes-at : table_after Attributes c 15 l (At i left) ≡ thru Stop (table_at (contents l) 5 attribute_at l i) (λ vs j. At j left)
+  attributes-at : table_after Attributes c 15 l at ≡ thru None (table_at (contents l) 5 attribute_at l at.word) (λ vs j. Some (place j at.left))
   unfolding row_after
-  attributes-at = kept_table c l 5 (omega arith) Attributes i left attribute_at refl
+  attributes-at = kept_table c l 5 (omega arith) Attributes at attribute_at refl
 
-  lists-at : table_after Lists c 17 l (At i left) ≡ thru Stop (table_at (contents l) 6 list_at l i) (λ vs j. At j left)
+  lists-at : table_after Lists c 17 l at ≡ thru None (table_at (contents l) 6 list_at l at.word) (λ vs j. Some (place j at.left))
   unfolding row_after
-  lists-at = kept_table c l 6 (omega arith) Lists i left list_at refl
+  lists-at = kept_table c l 6 (omega arith) Lists at list_at refl
 
 -- The end: the sheet's last word, and nothing left.
-unfoldable pub closed : ℕ → Read Judged → Place → Read Judged
-closed n x (At j left) = only not_sound (eqb j n) (only not_sound (eqb left 0) x)
-closed n x Stop = not_sound
+abbrev pub ending : ℕ → Judged → Place → code.Option Judged
+ending n j end = only None (eqb end.word n) (only None (eqb end.left 0) (Some j))
 
-closed-thru : {A : Type 0} (n : ℕ) (x : Read Judged) (g : Got A) (k : A → ℕ → Place) →
-    closed n x (thru Stop g k) ≡ thru not_sound g (λ v j. closed n x (k v j))
+unfoldable closed : ℕ → Judged → code.Option Place → Read Judged
+closed n x o = judged_read (o >>= ending n x)
+
+closed-thru : {A : Type 0} (n : ℕ) (x : Judged) (g : Got A) (k : A → ℕ → code.Option Place) →
+    closed n x (thru None g k) ≡ thru not_sound g (λ v j. closed n x (k v j))
 unfolding closed thru
 closed-thru n x (got v j) k = refl
 closed-thru n x (stop c i) k = refl
 
-closed-only : (n : ℕ) (x : Read Judged) (b : Bool) (o : Place) → closed n x (only Stop b o) ≡ only not_sound b (closed n x o)
+closed-only : (n : ℕ) (x : Judged) (b : Bool) (o : code.Option Place) → closed n x (only None b o) ≡ only not_sound b (closed n x o)
 unfolding closed only
 closed-only n x true o = refl
 closed-only n x false o = refl
 
-closed_at : (n : ℕ) (x : Read Judged) (j left : ℕ) → closed n x (At j left) ≡ only not_sound (eqb j n) (only not_sound (eqb left 0) x)
-unfolding closed
-closed_at n x j left = refl
+closed_at : (n : ℕ) (x : Judged) (at : Place) →
+    closed n x (Some at) ≡ only not_sound (eqb at.word n) (only not_sound (eqb at.left 0) (accepted x))
+unfolding closed only
+closed_at n x at = go (eqb at.word n) (eqb at.left 0)
+  where
+    go : (a b : Bool) → judged_read (only None a (only None b (Some x))) ≡ only not_sound a (only not_sound b (accepted x))
+    go true true = refl
+    go true false = refl
+    go false b = refl
 
 ended : {P : Type 0} (r : Frame) (d : Dec P) →
     summary (choose d (some r) none) ≡ only not_sound (holds d) (accepted record { class = class_in r; pool = pool_length r })
@@ -216,11 +227,11 @@ module _ (l : List ℕ) (h : 19 ≤ length l) (head : Head l) where
 
   -- The tables end with the sheet, and take its pool's length: that is its frame.
   tables-judged :
-      closed (length l) (accepted record { class = class_at; pool = get_or l 4 0 }) (tables_after class_at l (At 19 (get_or l 4 0))) ≡
+      closed (length l) record { class = class_at; pool = get_or l 4 0 } (tables_after class_at l (place 19 (get_or l 4 0))) ≡
       summary (ending_at (length l) (frame_at l 0))
   unfolding tables_after tables_at pool_length
   tables-judged =
-      simp (strings-at, types-at, constants-at, globals-at, functions-at, attributes-at, lists-at, table-thru, table-only, closed-thru, closed-only, closed_at, only-thru, ending-thru, frame-read l h, version-true l head, only_yes, thru-bind, thru-map)
+      simp (strings-at, types-at, constants-at, globals-at, functions-at, attributes-at, lists-at, then-thru, then-only, closed-thru, closed-only, closed_at, only-thru, ending-thru, frame-read l h, version-true l head, only_yes, thru-bind, thru-map)
       (thru-with not_sound _ _ _ (λ ss j₀ e. thru-same not_sound _ _ _ (λ ts j₁. thru-same not_sound _ _ _ (λ ks j₂.
       thru-same not_sound _ _ _ (λ gs j₃. thru-same not_sound _ _ _ (λ fs j₄. thru-same not_sound _ _ _ (λ ds j₅.
       thru-same not_sound _ _ _ (λ ls j₆.
@@ -263,12 +274,8 @@ frame-head r s =
     at_most none n i = omega arith
     at_most (some index) n i = omega (arith, i)
 
-ends-none : (l : List ℕ) (c : VersionClass) (n : ℕ) (x : Read Judged) → closed n x (tables_after c l Stop) ≡ not_sound
-unfolding tables_after closed
-ends-none l c n x = simp table_none
-
 -- Words that do not fit, and too few words.
-pub head-refused : (l : List ℕ) → head_fits l ≡ false → not_sound ≡ summary (judged l)
+head-refused : (l : List ℕ) → head_fits l ≡ false → not_sound ≡ summary (judged l)
 head-refused l e =
     none-if l (λ r q.
     let x = (judged-exact l r).0 q in
@@ -294,26 +301,6 @@ module _ (s : List ℕ) (bytes : (i : ℕ) → get_or s i 0 < 256) where
   unfolding judged
   whole-judged = choose_yes (all? (fits? 64) (words_in s)) _ _ words_fit
 
-  -- The judge's answer, where words 0 to 3 fit.
-  abbrev class₀ : VersionClass
-  class₀ = class_of (get_or (words_in s) 0 0) (get_or (words_in s) 1 0)
-
-  abbrev Answer : Place → Type 0
-  Answer first =
-      closed (length (words_in s)) (accepted record { class = class₀; pool = get_or (words_in s) 4 0 }) (tables_after class₀ (words_in s) first) ≡
-      summary (judged (words_in s))
-
-  pub judged-tables : head_fits (words_in s) ≡ true → Answer (kept (raw 19) (words_in s) (At 0 (get_or (words_in s) 4 0)))
-  judged-tables e =
-      elim (dec_le 19 (length (words_in s))) [
-        | yes h ↦
-            let n : 19 ≤ length (words_in s) - 0 = omega arith in
-            simp (kept_at, words-at) (tables-judged (words_in s) h (head_of (words_in s) e) ∙ sym (ap summary whole-judged))
-        | no h ↦
-            let n : length (words_in s) - 0 < 19 = omega arith in
-            simp (kept_at, words-end) (ends-none (words_in s) class₀ _ _ ∙ few-refused (words_in s) (omega arith))
-      ]
-
 -- A store that is whole words, and one that is not.
 pub whole_words : (s : List ℕ) → length s % 8 ≡ 0 → judged_bytes s ≡ judged (words_in s)
 unfolding judged_bytes
@@ -323,53 +310,40 @@ pub part-words : (s : List ℕ) → ¬ (length s % 8 ≡ 0) → not_sound ≡ su
 unfolding judged_bytes summary
 part-words s n = rw (choose_no (ℕ_discrete (length s % 8) 0) (judged (words_in s)) none n)
 
--- The tests of words 0 to 3, one by one.
-module _ (l : List ℕ) where
-  pub head-major : {a : ℕ} → a ≡ get_or l 0 0 → 255 < a → false ≡ head_fits l
-  unfolding head_fits
-  head-major {a} e h = rw (← e, le-ltb a 256 h)
+-- The steps of the judge: words 0 to 3, words 0 to 18, the tables, and the end.
+abbrev pub judging : List ℕ → code.Option Judged
+judging s =
+    let l = words_in s in
+    head_class l >>= (λ class. kept (raw 19) l (place 0 (get_or l 4 0)) >>= tables_after class l >>=
+    ending (length s / 8) record { class = class; pool = get_or l 4 0 })
 
-  pub head-minor : {a b : ℕ} → a ≡ get_or l 0 0 → b ≡ get_or l 1 0 → a ≤ 255 → 255 < b → false ≡ head_fits l
-  unfolding head_fits
-  head-minor {a} {b} e f g h = rw (← e, ← f, lt-ltb a 256 (omega arith), le-ltb b 256 h)
+module _ (s : List ℕ) (bytes : (i : ℕ) → get_or s i 0 < 256) (whole : length s % 8 ≡ 0) where
+  abbrev class₀ : VersionClass
+  class₀ = class_of (get_or (words_in s) 0 0) (get_or (words_in s) 1 0)
 
-  pub head-tag : {a b t : ℕ} → a ≡ get_or l 0 0 → b ≡ get_or l 1 0 → t ≡ get_or l 2 0 → a ≤ 255 → b ≤ 255 → 65535 < t → false ≡ head_fits l
-  unfolding head_fits
-  head-tag {a} {b} {t} e f g h i j = rw (← e, ← f, ← g, lt-ltb a 256 (omega arith), lt-ltb b 256 (omega arith), le-ltb t 65536 j)
+  abbrev pool₀ : Judged
+  pool₀ = record { class = class₀; pool = get_or (words_in s) 4 0 }
 
-  pub head-last : {a b t p n : ℕ} → a ≡ get_or l 0 0 → b ≡ get_or l 1 0 → t ≡ get_or l 2 0 → p ≡ get_or l 3 0 → n ≡ get_or l 6 0 →
-      a ≤ 255 → b ≤ 255 → t ≤ 65535 → leb p n ≡ head_fits l
-  unfolding head_fits
-  head-last {a} {b} {t} {p} {n} e f g x y h i j =
-      rw (← e, ← f, ← g, ← x, ← y, lt-ltb a 256 (omega arith), lt-ltb b 256 (omega arith), lt-ltb t 65536 (omega arith))
-
-  -- A version that fits has bytes.
-  pub major_byte : head_fits l ≡ true → {a : ℕ} → a ≡ get_or l 0 0 → a < 256
-  major_byte h e = omega (arith, ltb-true (get_or l 0 0) 256 (head_of l h).major)
-
-  pub minor_byte : head_fits l ≡ true → {a : ℕ} → a ≡ get_or l 1 0 → a < 256
-  minor_byte h e = omega (arith, ltb-true (get_or l 1 0) 256 (head_of l h).minor)
-
--- What is answered where the tables end.
-module _ (s : List ℕ) (bytes : (i : ℕ) → get_or s i 0 < 256) (whole : length s % 8 ≡ 0) (fits : head_fits (words_in s) ≡ true)
-    {class : VersionClass} {pool : ℕ} {first tables : Place} (a : class ≡ class_of (get_or (words_in s) 0 0) (get_or (words_in s) 1 0))
-    (b : pool ≡ get_or (words_in s) 4 0) (c : first ≡ kept (raw 19) (words_in s) (At 0 pool)) (d : tables ≡ tables_after class (words_in s) first) where
-  answer : closed (length s / 8) (accepted record { class = class; pool = pool }) tables ≡ summary (judged_bytes s)
-  answer = rw (d, c, a, b, ← length-words_in s) (judged-tables s bytes fits ∙ sym (ap summary (whole_words s whole)))
-
-  pub not-ended : tables ≡ Stop → not_sound ≡ summary (judged_bytes s)
+  tables : head_fits (words_in s) ≡ true →
+      closed (length (words_in s)) pool₀ (kept (raw 19) (words_in s) (place 0 (get_or (words_in s) 4 0)) >>= tables_after class₀ (words_in s)) ≡
+      summary (judged (words_in s))
   unfolding closed
-  not-ended e = rw (← answer, e)
+  tables e =
+      elim (dec_le 19 (length (words_in s))) [
+        | yes h ↦
+            let n : 19 ≤ length (words_in s) - 0 = omega arith in
+            simp (kept_at, words-at) (tables-judged (words_in s) h (head_of (words_in s) e) ∙ sym (ap summary (whole-judged s bytes)))
+        | no h ↦
+            let n : length (words_in s) - 0 < 19 = omega arith in
+            simp (kept_at, words-end) (few-refused (words_in s) (omega arith))
+      ]
 
-  pub not_last : {j left : ℕ} → tables ≡ At j left → ¬ (j ≡ length s / 8) → not_sound ≡ summary (judged_bytes s)
-  unfolding closed only
-  not_last {j} e n = rw (← answer, e, ne_eqb j (length s / 8) n)
-
-  pub not-spent : {j left : ℕ} → tables ≡ At j left → j ≡ length s / 8 → ¬ (left ≡ 0) → not_sound ≡ summary (judged_bytes s)
-  unfolding closed only
-  not-spent {j} {left} e n m = rw (← answer, e, eq-eqb j (length s / 8) n, ne_eqb left 0 m)
-
-  pub all-judged : {j left : ℕ} → tables ≡ At j left → j ≡ length s / 8 → left ≡ 0 →
-      accepted record { class = class; pool = pool } ≡ summary (judged_bytes s)
-  unfolding closed only
-  all-judged {j} {left} e n m = rw (← answer, e, eq-eqb j (length s / 8) n, eq-eqb left 0 m)
+  pub judging-all : judged_read (judging s) ≡ summary (judged_bytes s)
+  unfolding head_class closed only
+  judging-all = rw (whole_words s whole) (go (head_fits (words_in s)) refl)
+    where
+      go : (b : Bool) → head_fits (words_in s) ≡ b →
+          judged_read (only None b (Some class₀) >>= (λ class. kept (raw 19) (words_in s) (place 0 (get_or (words_in s) 4 0)) >>= tables_after class (words_in s) >>=
+          ending (length s / 8) record { class = class; pool = get_or (words_in s) 4 0 })) ≡ summary (judged (words_in s))
+      go true e = rw (← length-words_in s) (tables e)
+      go false e = head-refused (words_in s) e

@@ -10,24 +10,24 @@ use lib.ListN.{length, get_or}
 use borrow.Author.Tests.{eqb-true, ne_eqb, lt-leb}
 use Rattle.exact.specs.Got.{Got, got, stop, follow}
 use Rattle.exact.specs.Exact.{Parser}
-use Rattle.exact.specs.Basic.{pure, fail}
+use Rattle.exact.specs.Basic.{fail}
 use Rattle.exact.specs.Sequence.{bind}
 use Rattle.exact.specs.Choice.{choose}
 use Rattle.exact.proofs.LawsChoice.{choose_yes, choose_no}
 use Rattle.exact.proofs.LawsSteps.{byte_at}
 use Rattle.enums.specs.Refusals as refusals
 use Rattle.enums.specs.declared.VersionClass.{VersionClass}
-use Rattle.format.specs.Tables.{TypeRow, plain}
+use Rattle.format.specs.Tables.{TypeRow}
 use Rattle.format.specs.Sheet.{field_words}
 use Rattle.format.specs.Types.{plain_tags, among}
 use Rattle.format.specs.Tests.{both?, plain?, type?}
 use Rattle.format.specs.Judge.{word, pointer_at, tile_at, tensor_view_at, partition_view_at, gather_scatter_view_at, strided_view_at, function_type_at, kind_at, type_at}
 use Rattle.format.proofs.LawsFlat.{Flat, flat}
 use Rattle.format.proofs.LawsTypeRow.{fields-exact}
+use Rattle.std.specs.Prelude.{Option, Some, None}
 use Rattle.judge.specs.declared.steps.Place.{Place}
-use Rattle.judge.specs.declared.steps.Place.TheVariants.{At, Stop}
-use Rattle.judge.specs.Steps.{thru, only, holds, kept, value_at, distance, sound_type}
-use Rattle.judge.proofs.LawsThru.{thru-bind, thru-such, thru-checked, thru-pure, kept_at, kept-none, only_none}
+use Rattle.judge.specs.Steps.{◌>>=◌, thru, only, holds, place, kept, value_at, distance, sound_type}
+use Rattle.judge.proofs.LawsThru.{thru-bind, thru-such, thru-checked, thru-pure, then-thru, then-only, kept_at}
 use Rattle.judge.proofs.LawsTests.{holds-both, holds-eq, holds-yes}
 use Rattle.judge.proofs.LawsSteps.{word_at, word_end}
 
@@ -62,18 +62,14 @@ module _ {t : ℕ} where
   kind-strided e = rw e
 
 -- Fields by a reader that is the same.
-pub kind-as : (c : VersionClass) (l : List ℕ) (at : Place) {p q : Parser TypeRow} {r : Place} → p ≡ q →
+pub kind-as : (c : VersionClass) (l : List ℕ) (at : Place) {p q : Parser TypeRow} {r : Option Place} → p ≡ q →
     r ≡ kept (sound_type c p) l at → r ≡ kept (sound_type c q) l at
 kind-as c l at e x = x ∙ ap (λ p. kept (sound_type c p) l at) e
 
 -- A tag without fields ..
-pub plain-steps : (c : VersionClass) (t : ℕ) (l : List ℕ) (at : Place) → among t plain_tags ≡ true → at ≡ kept (sound_type c (kind_at t)) l at
+pub plain-steps : (c : VersionClass) (t : ℕ) (l : List ℕ) (at : Place) → among t plain_tags ≡ true → Some at ≡ kept (sound_type c (kind_at t)) l at
 unfolding kind_at sound_type type? only
-plain-steps c t l at h = kind-as c l at (sym (choose_yes (plain? t) _ _ h)) (same at)
-  where
-    same : (at : Place) → at ≡ kept (sound_type c (pure (plain t))) l at
-    same Stop = simp kept-none
-    same (At i left) = simp (kept_at, thru-checked, thru-pure) (rw (holds-yes (plain? t) h))
+plain-steps c t l at h = kind-as c l at (sym (choose_yes (plain? t) _ _ h)) (simp (kept_at, thru-checked, thru-pure) (rw (holds-yes (plain? t) h)))
 
 pub no_true : {A : Type 0} → ◌≡◌ {A = Bool} false true → A
 no_true e = let n : ◌≡◌ {A = ℕ} 0 1 = cc in absurd (omega arith)
@@ -98,9 +94,9 @@ among_in f t (u ∷ us) h e =
     go false q e x y = y e
 
 -- .. a tag that is not known ..
-pub unknown-steps : (c : VersionClass) (t : ℕ) (l : List ℕ) (at : Place) → 22 < t → ¬ (t ≡ 130) → Stop ≡ kept (sound_type c (kind_at t)) l at
+pub unknown-steps : (c : VersionClass) (t : ℕ) (l : List ℕ) (at : Place) → 22 < t → ¬ (t ≡ 130) → None ≡ kept (sound_type c (kind_at t)) l at
 unfolding kind_at sound_type fail thru
-unknown-steps c t l at h n = kind-as c l at (sym unknown) (none at)
+unknown-steps c t l at h n = kind-as c l at (sym unknown) (simp (kept_at, thru-checked))
   where
     not_plain : ¬ (among t plain_tags ≡ true)
     not_plain e =
@@ -113,10 +109,6 @@ unknown-steps c t l at h n = kind-as c l at (sym unknown) (none at)
         choose_no (ℕ_discrete t 13) _ _ (omega arith) ∙ choose_no (ℕ_discrete t 14) _ _ (omega arith) ∙
         choose_no (ℕ_discrete t 15) _ _ (omega arith) ∙ choose_no (ℕ_discrete t 20) _ _ (omega arith) ∙
         choose_no (ℕ_discrete t 21) _ _ (omega arith) ∙ choose_no (ℕ_discrete t 16) _ _ (omega arith)
-
-    none : (at : Place) → Stop ≡ kept (sound_type c (fail refusals.unsound)) l at
-    none Stop = simp kept-none
-    none (At i left) = simp (kept_at, thru-checked)
 
 -- Tag and fields are as many words as they say.
 flat-is : {A : Type 0} {f : A → List ℕ} {P : A → Type 0} (i : ℕ) (ws : List ℕ) (v : A) → Flat f P i ws v → ws ≡ f v
@@ -131,43 +123,41 @@ fields-end l i r j h e =
 
 -- The count is compared with the words up to the end.
 module _ (c : VersionClass) (count i left : ℕ) where
-  abbrev ended : Got TypeRow → Place
-  ended g = thru Stop g (λ r j. only Stop (holds (type? c r)) (At j left))
-
   counted : (n j : ℕ) (b : Bool) → j ≡ i + n →
-      only Stop (eqb (distance (At i left) (only Stop b (At j left))) count) (only Stop b (At j left)) ≡ only Stop (eqb n count && b) (At j left)
-  unfolding only distance
+      only None b (only None (eqb (j - i) count) (Some (place j left))) ≡ only None (eqb n count && b) (Some (place j left))
+  unfolding only
   counted n j true e = let d : j - i ≡ n = omega arith in rw d (by (eqb n count))
     where
-      by : (a : Bool) → only Stop a (At j left) ≡ only Stop (a && true) (At j left)
+      by : (a : Bool) → only None a (Some (place j left)) ≡ only None (a && true) (Some (place j left))
       by true = refl
       by false = refl
-  counted n j false e = only_none (eqb 0 count) ∙ by (eqb n count)
+  counted n j false e = by (eqb n count)
     where
-      by : (a : Bool) → Stop ≡ only Stop (a && false) (At j left)
+      by : (a : Bool) → None ≡ only None (a && false) (Some (place j left))
       by true = refl
       by false = refl
 
   row-end : (g : Got TypeRow) → ((r : TypeRow) (j : ℕ) → g ≡ got r j → j ≡ i + length (field_words r)) →
-      only Stop (eqb (distance (At i left) (ended g)) count) (ended g) ≡
-      thru Stop g (λ r j. only Stop (holds (both? (ℕ_discrete (length (field_words r)) count) (type? c r))) (At j left))
+      thru None g (λ r j. only None (holds (type? c r)) (only None (eqb (j - i) count) (Some (place j left)))) ≡
+      thru None g (λ r j. only None (holds (both? (ℕ_discrete (length (field_words r)) count) (type? c r))) (Some (place j left)))
   unfolding thru
-  row-end (stop k m) f = only_none _
+  row-end (stop k m) f = refl
   row-end (got r j) f = counted (length (field_words r)) j (holds (type? c r)) (f r j refl) ∙ rw (holds-both, holds-eq)
 
-module _ (c : VersionClass) (l : List ℕ) where
-  abbrev typed : Place → Place
-  typed at = kept (sound_type c (kind_at (value_at l (kept word l at)))) l (kept word l (kept word l at))
-
-  -- A type's row.
-  pub type-steps : (at : Place) → only Stop (eqb (distance (kept word l at) (typed at)) (value_at l at)) (typed at) ≡ kept (type_at c) l at
-  unfolding value_at sound_type type_at
-  type-steps Stop = simp (kept-none, only_none)
-  type-steps (At i left) =
-      elim (dec_lt i (length l)) [
-        | yes h ↦ elim (dec_lt (i + 1) (length l)) [
-          | yes m ↦ simp (kept_at, word_at, thru-checked, thru-bind, thru-such) (row-end c (get_or l i 0) (i + 1) left _ (λ r j e. fields-end l (i + 1) r j m e))
-          | no m ↦ let n : length l ≤ i + 1 = omega arith in simp (kept_at, kept-none, word_at, word_end, only_none, thru-bind, thru-such)
+-- A type's row.
+module _ (c : VersionClass) (l : List ℕ) (at : Place) where
+  pub judge_type :
+      kept (type_at c) l at ≡
+      kept word l at >>= (λ tagged. kept word l tagged >>= kept (sound_type c (kind_at (value_at l tagged))) l >>=
+      (λ end. only None (eqb (distance tagged end) (value_at l at)) (Some end)))
+  unfolding sound_type type_at
+  judge_type =
+      elim (dec_lt at.word (length l)) [
+        | yes h ↦ elim (dec_lt (at.word + 1) (length l)) [
+          | yes m ↦
+              simp (kept_at, then-thru, then-only, word_at, thru-checked, thru-bind, thru-such)
+              (sym (row-end c (get_or l at.word 0) (at.word + 1) at.left _ (λ r j e. fields-end l (at.word + 1) r j m e)))
+          | no m ↦ let n : length l ≤ at.word + 1 = omega arith in simp (kept_at, word_at, word_end, thru-bind, thru-such)
         ]
-        | no h ↦ let n : length l ≤ i = omega arith in simp (kept_at, kept-none, word_end, only_none, thru-bind)
+        | no h ↦ let n : length l ≤ at.word = omega arith in simp (kept_at, word_end, thru-bind)
       ]

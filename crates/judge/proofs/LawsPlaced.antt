@@ -18,19 +18,19 @@ use Rattle.format.specs.Judge.{judged}
 use Rattle.format.proofs.LawsFrame.{judged-exact}
 use Rattle.sheet.specs.Store.{words_in}
 use Rattle.judge.specs.declared.Judged.{Judged}
-use Rattle.judge.specs.declared.SheetJudged.{SheetJudged}
-use Rattle.judge.specs.declared.SheetJudged.TheVariants as sheet
+use Rattle.std.specs.Prelude as code
+use Rattle.std.specs.Prelude.{Some, None}
 use Rattle.judge.specs.Judge.{judged_bytes, not_sound, judged_read, summary}
 
 -- Any two answers that the contract of `judge` allows are equal.
-pub judge-only : (s : List ℕ) (x y : SheetJudged) → judged_read x ≡ summary (judged_bytes s) → judged_read y ≡ summary (judged_bytes s) → x ≡ y
+pub judge-only : (s : List ℕ) (x y : code.Option Judged) → judged_read x ≡ summary (judged_bytes s) → judged_read y ≡ summary (judged_bytes s) → x ≡ y
 judge-only s x y e f = go x y (e ∙ sym f)
   where
-    go : (x y : SheetJudged) → judged_read x ≡ judged_read y → x ≡ y
-    go (sheet.Passed i) (sheet.Passed j) e = cc
-    go (sheet.Passed i) sheet.Stop e = cc
-    go sheet.Stop (sheet.Passed j) e = cc
-    go sheet.Stop sheet.Stop e = refl
+    go : (x y : code.Option Judged) → judged_read x ≡ judged_read y → x ≡ y
+    go (Some i) (Some j) e = cc
+    go (Some i) None e = cc
+    go None (Some j) e = cc
+    go None None e = refl
 
 -- A store whose sheet passed holds whole words, those of a well-formed frame.
 pub record Holds (s : List ℕ) (r : Frame) : Type 0 where

@@ -1,10 +1,10 @@
 -- The rows that have a fixed number of words, and rows one after the other. Assumes nothing.
 use mathlib.Core.Path.{◌≡◌, refl, sym, ap, ◌∙◌}
 use Prim.Native.Nat.{ℕ, zero, suc, ◌+◌, ◌-◌, ◌/◌, ◌%◌, ◌≤◌, ◌<◌}
-use native.Mathlib.Decide.{dec_le}
+use native.Mathlib.Decide.{dec_lt, dec_le}
 use native.Mathlib.Nat.{add-zero, not-suc-le-zero, le_of_suc-le-suc}
 use native.Mathlib.Omega.{arith}
-use mathlib.Core.Bool.{Bool, true, false, ◌||◌}
+use mathlib.Core.Bool.{true, false, ◌||◌}
 use mathlib.Core.List.{List, [], ◌∷◌}
 use lib.Dec.{eqb, ltb, leb}
 use lib.ListN.{length, take, drop, get_or, length-drop}
@@ -22,10 +22,10 @@ use Rattle.format.specs.Sheet.{FunctionRow, attribute_fields}
 use Rattle.format.specs.Tests.{global?, function?, attribute?}
 use Rattle.format.specs.Judge.{word, global_at, function_at, attribute_at}
 use Rattle.format.proofs.LawsFrame.{part-all}
+use Rattle.std.specs.Prelude.{Option, Some, None}
 use Rattle.judge.specs.declared.steps.Place.{Place}
-use Rattle.judge.specs.declared.steps.Place.TheVariants.{At, Stop}
-use Rattle.judge.specs.Steps.{thru, only, holds, kept, spent, value_at, between, all_up_to}
-use Rattle.judge.proofs.LawsThru.{thru-bind, thru-map, thru-such, thru-pure, only-and, kept_at, kept-none, only_none}
+use Rattle.judge.specs.Steps.{◌>>=◌, thru, only, holds, place, kept, spent, value_at, between, all_up_to}
+use Rattle.judge.proofs.LawsThru.{thru-bind, thru-map, thru-such, thru-pure, only-and, then-only, kept_at, only_none}
 use Rattle.judge.proofs.LawsTests.{holds_same, holds-both, holds-only, holds-since3, holds_fits, holds-lt, holds-eq, holds-zeros}
 use Rattle.judge.proofs.LawsSteps.{word_at, word_end, words-at, words-end, times-raw, only-true, only-false}
 
@@ -65,81 +65,70 @@ module _ {X : Type 0} (z : X) (l : List ℕ) (i : ℕ) where
 pub field : (n : ℕ) (l : List ℕ) (i k : ℕ) → k < n → get_or (take n (drop i l)) k 0 ≡ get_or l (i + k) 0
 field n l i k h = rw (get_or-take, get_or-drop)
 
-module _ (c : VersionClass) (l : List ℕ) where
-  abbrev global_tests : ℕ → ℕ → Place → Place
+-- Words that were passed are words of the sheet.
+pub passed-words : (n : ℕ) (l : List ℕ) (at end : Place) → Some end ≡ kept (raw n) l at → at.word + n ≡ end.word
+unfolding kept
+passed-words n l at end e =
+    elim (dec_le n (length l - at.word)) [
+      | yes h ↦ let k : Some end ≡ Some (place (at.word + n) at.left) = e ∙ words-at None n l at.word _ h in cc
+      | no h ↦ let k : Some end ≡ None = e ∙ words-end None n l at.word _ (omega arith) in cc
+    ]
+
+module _ (c : VersionClass) (l : List ℕ) (at : Place) where
+  abbrev global_tests : ℕ → ℕ → Place → Option Place
   global_tests v f end =
-      only Stop (ltb v 256) (only Stop (since13_3 c || eqb v 0) (only Stop (ltb f 2) (only Stop (since13_3 c || eqb f 0) end)))
+      only None (ltb v 256) (Some end) >>= (λ a. only None (since13_3 c || eqb v 0) (Some a)) >>= (λ b. only None (ltb f 2) (Some b)) >>=
+      (λ d. only None (since13_3 c || eqb f 0) (Some d))
 
-  global-tests : (ws : List ℕ) (end : Place) → only Stop (holds (global? c (global_from ws))) end ≡ global_tests (get_or ws 4 0) (get_or ws 5 0) end
+  global-tests : (ws : List ℕ) (end : Place) → only None (holds (global? c (global_from ws))) (Some end) ≡ global_tests (get_or ws 4 0) (get_or ws 5 0) end
   unfolding global?
-  global-tests ws end = simp (holds_same, holds-both, holds-only, holds-since3, holds_fits, holds-lt, only-and)
-
-  tests-none : (v f : ℕ) → global_tests v f Stop ≡ Stop
-  tests-none v f = simp only_none
+  global-tests ws end = simp (holds_same, holds-both, holds-only, holds-since3, holds_fits, holds-lt, only-and, then-only)
 
   -- A global's row.
-  pub global-steps : (at : Place) →
-      global_tests (value_at l (kept (raw 4) l at)) (value_at l (kept (raw 5) l at)) (kept (raw 6) l at) ≡ kept (global_at c) l at
-  unfolding value_at
-  global-steps Stop = simp (kept-none, only_none)
-  global-steps (At i left) =
-      elim (dec_le 6 (length l - i)) [
+  pub judge_global : kept (global_at c) l at ≡ kept (raw 6) l at >>= global_tests (get_or l (at.word + 4) 0) (get_or l (at.word + 5) 0)
+  judge_global =
+      elim (dec_le 6 (length l - at.word)) [
         | yes h ↦
-            let m : 4 ≤ length l - i = omega arith in
-            let n : 5 ≤ length l - i = omega arith in
             simp (kept_at, global-read, words-at)
-            (sym (global-tests (take 6 (drop i l)) (At (i + 6) left) ∙ rw (field 6 l i 4 (omega arith), field 6 l i 5 (omega arith))))
+            (global-tests (take 6 (drop at.word l)) (place (at.word + 6) at.left) ∙ rw (field 6 l at.word 4 (omega arith), field 6 l at.word 5 (omega arith)))
         | no h ↦
-            let m : length l - i < 6 = omega arith in
-            simp (kept_at, global-read, words-end, only_none)
+            let m : length l - at.word < 6 = omega arith in
+            simp (kept_at, global-read, words-end)
       ]
 
 module _ (l : List ℕ) where
-  -- A test before a length.
-  pub spent-only : {A : Type 0} (p : Parser A) (f : A → ℕ) (b : Bool) (o : Place) → spent p f l (only Stop b o) ≡ only Stop b (spent p f l o)
-  unfolding spent only
-  spent-only p f true o = refl
-  spent-only p f false o = refl
-
-  pub spent-at : {A : Type 0} (p : Parser A) (f : A → ℕ) (i left : ℕ) →
-      spent p f l (At i left) ≡ thru Stop (p l i) (λ v j. only Stop (leb (f v) left) (At j (left - f v)))
+  pub spent-at : {A : Type 0} (p : Parser A) (f : A → ℕ) (at : Place) →
+      spent p f l at ≡ thru None (p l at.word) (λ v j. only None (leb (f v) at.left) (Some (place j (at.left - f v))))
   unfolding spent
-  spent-at p f i left = refl
+  spent-at p f at = refl
 
-  pub spent-none : {A : Type 0} (p : Parser A) (f : A → ℕ) → spent p f l Stop ≡ Stop
-  unfolding spent
-  spent-none p f = refl
-
-  abbrev function_tests : ℕ → Place → Place
-  function_tests f o = only Stop (ltb f 256) (only Stop (eqb (f / 4 % 2) 0) o)
-
-  function-tests : (ws : List ℕ) (o : Place) → only Stop (holds (function? (function_from ws))) o ≡ function_tests (get_or ws 2 0) o
+  function-tests : {A : Type 0} (ws : List ℕ) (o : Option A) →
+      only None (holds (function? (function_from ws))) o ≡ only None (ltb (get_or ws 2 0) 256) (only None (eqb (get_or ws 2 0 / 4 % 2) 0) o)
   unfolding function?
   function-tests ws o = simp (holds_same, holds-both, holds_fits, holds-eq, only-and)
 
   -- A function's row.
-  pub function-steps : (at : Place) →
-      spent word (λ n. n) l (function_tests (value_at l (kept (raw 2) l at)) (kept (raw 4) l at)) ≡ spent function_at (λ f. f.body_length) l at
-  unfolding value_at
-  function-steps Stop = simp (kept-none, only_none, spent-none)
-  function-steps (At i left) =
-      elim (dec_le 5 (length l - i)) [
+  pub judge_function : (at : Place) →
+      spent function_at (λ f. f.body_length) l at ≡
+      kept (raw 4) l at >>= (λ body. only None (ltb (get_or l (at.word + 2) 0) 256) (Some body)) >>=
+      (λ body. only None (eqb (get_or l (at.word + 2) 0 / 4 % 2) 0) (Some body)) >>= spent word (λ n. n) l
+  judge_function at =
+      elim (dec_le 5 (length l - at.word)) [
         | yes h ↦
-            let m : 4 ≤ length l - i = omega arith in
-            let n : 2 ≤ length l - i = omega arith in
-            let w : i + 4 < length l = omega arith in
-            let e : i + 4 + 1 ≡ i + 5 = omega arith in
-            simp (spent-only, kept_at, function-read, words-at, spent-at, word_at)
-            (sym (function-tests (take 5 (drop i l)) _ ∙ rw (field 5 l i 2 (omega arith), field 5 l i 4 (omega arith), e)))
-        | no h ↦ elim (dec_le 4 (length l - i)) [
+            let m : 4 ≤ length l - at.word = omega arith in
+            let w : at.word + 4 < length l = omega arith in
+            let e : at.word + 4 + 1 ≡ at.word + 5 = omega arith in
+            simp (kept_at, function-read, words-at, spent-at, word_at, then-only)
+            (function-tests (take 5 (drop at.word l)) _ ∙ rw (field 5 l at.word 2 (omega arith), field 5 l at.word 4 (omega arith), e))
+        | no h ↦ elim (dec_le 4 (length l - at.word)) [
           | yes k ↦
-              let m : length l - i < 5 = omega arith in
-              let w : length l ≤ i + 4 = omega arith in
-              simp (spent-only, kept_at, function-read, words-at, words-end, spent-at, word_end, only_none)
+              let m : length l - at.word < 5 = omega arith in
+              let w : length l ≤ at.word + 4 = omega arith in
+              simp (kept_at, function-read, words-at, words-end, spent-at, word_end, then-only, only_none)
           | no k ↦
-              let m : length l - i < 5 = omega arith in
-              let w : length l - i < 4 = omega arith in
-              simp (spent-only, kept_at, function-read, words-end, spent-at, spent-none, only_none)
+              let m : length l - at.word < 5 = omega arith in
+              let w : length l - at.word < 4 = omega arith in
+              simp (kept_at, function-read, words-end, spent-at)
         ]
       ]
 
@@ -163,44 +152,57 @@ module _ (l : List ℕ) (i n : ℕ) (h : 7 ≤ length l - i) (m : n ≤ 6) where
       let d : i + 7 - (i + (1 + n)) ≡ 7 - (1 + n) = omega arith in
       rw (fields-are (take 7 (drop i l)) q, drop-drop, d, drop-taken (1 + n) 7 (drop i l) (omega arith), drop-drop)
 
-attribute-tests : (ws : List ℕ) (o : Place) →
-    only Stop (holds (attribute? (attribute_from ws))) o ≡
-    only Stop (ltb (get_or ws 0 0) 7) (only Stop (all_up_to 0 (drop (get_or field_counts (get_or ws 0 0) 0) (attribute_fields (attribute_from ws)))) o)
+attribute-tests : {A : Type 0} (ws : List ℕ) (o : Option A) →
+    only None (holds (attribute? (attribute_from ws))) o ≡
+    only None (ltb (get_or ws 0 0) 7) (only None (all_up_to 0 (drop (get_or field_counts (get_or ws 0 0) 0) (attribute_fields (attribute_from ws)))) o)
 unfolding attribute?
 attribute-tests ws o = simp (holds_same, holds-both, holds-lt, holds-zeros, only-and)
 
-module _ (l : List ℕ) where
-  tag_is : (i : ℕ) {tag : ℕ} → tag ≡ get_or l i 0 → get_or (take 7 (drop i l)) 0 0 ≡ tag
-  tag_is i e = field 7 l i 0 (omega arith) ∙ rw (add-zero i, e)
+module _ (l : List ℕ) (at : Place) where
+  tag_is : get_or (take 7 (drop at.word l)) 0 0 ≡ get_or l at.word 0
+  tag_is = field 7 l at.word 0 (omega arith) ∙ rw add-zero
 
-  -- An attribute's row whose tag is not known ..
-  pub attribute-unknown : (at : Place) {tag : ℕ} → tag ≡ value_at l at → 6 < tag → Stop ≡ kept attribute_at l at
-  unfolding value_at
-  attribute-unknown Stop e h = simp kept-none
-  attribute-unknown (At i left) {tag} e h =
-      elim (dec_le 7 (length l - i)) [
+  abbrev absent_end : Option Place
+  absent_end =
+      kept (raw (1 + get_or field_counts (value_at l at) 0)) l at >>= (λ absent. kept (raw 7) l at >>=
+      (λ end. only None (all_up_to 0 (between l absent end)) (Some end)))
+
+  known : value_at l at < 7 → kept attribute_at l at ≡ absent_end
+  unfolding thru kept
+  known h =
+      elim (dec_le 7 (length l - at.word)) [
         | yes m ↦
-            let w = tag_is i e in
-            let q : ltb (get_or (take 7 (drop i l)) 0 0) 7 ≡ false = le-ltb (get_or (take 7 (drop i l)) 0 0) 7 (omega arith) in
-            simp (kept_at, attribute-read, words-at) (only-false _ q ∙ sym (attribute-tests (take 7 (drop i l)) _))
-        | no m ↦ let k : length l - i < 7 = omega arith in simp (kept_at, attribute-read, words-end)
+            let w = tag_is in
+            let few : get_or field_counts (value_at l at) 0 ≤ 6 = omega (arith, counts-few (value_at l at)) in
+            let k : 1 + get_or field_counts (value_at l at) 0 ≤ length l - at.word = omega arith in
+            let t : ltb (get_or (take 7 (drop at.word l)) 0 0) 7 ≡ true = lt-ltb (get_or (take 7 (drop at.word l)) 0 0) 7 (omega arith) in
+            let f = attribute_fields (attribute_from (take 7 (drop at.word l))) in
+            let d = ap (λ t. drop (get_or field_counts t 0) f) w ∙ absent-words l at.word (get_or field_counts (value_at l at) 0) m few in
+            simp (kept_at, attribute-read, words-at)
+            (attribute-tests (take 7 (drop at.word l)) _ ∙ sym (only-true _ t) ∙ ap (λ ws. only None (all_up_to 0 ws) (Some (place (at.word + 7) at.left))) d)
+        | no m ↦
+            let k : length l - at.word < 7 = omega arith in
+            simp (kept_at, attribute-read, words-end) (no_end (kept (raw (1 + get_or field_counts (value_at l at) 0)) l at))
+      ]
+    where
+      no_end : (o : Option Place) → ◌≡◌ {A = Option Place} None (o >>= (λ absent. None))
+      no_end None = refl
+      no_end (Some absent) = refl
+
+  unknown : ¬ (value_at l at < 7) → kept attribute_at l at ≡ None
+  unknown h =
+      elim (dec_le 7 (length l - at.word)) [
+        | yes m ↦
+            let w = tag_is in
+            let q : ltb (get_or (take 7 (drop at.word l)) 0 0) 7 ≡ false = le-ltb (get_or (take 7 (drop at.word l)) 0 0) 7 (omega arith) in
+            simp (kept_at, attribute-read, words-at) (attribute-tests (take 7 (drop at.word l)) _ ∙ sym (only-false _ q))
+        | no m ↦ let k : length l - at.word < 7 = omega arith in simp (kept_at, attribute-read, words-end)
       ]
 
-  -- .. and one whose tag is.
-  pub attribute-steps : (at : Place) {tag n : ℕ} → tag ≡ value_at l at → tag ≤ 6 → n ≡ get_or field_counts tag 0 →
-      only Stop (all_up_to 0 (between l (kept (raw (1 + n)) l at) (kept (raw 7) l at))) (kept (raw 7) l at) ≡ kept attribute_at l at
-  unfolding value_at between
-  attribute-steps Stop e h q = simp (kept-none, only_none)
-  attribute-steps (At i left) {tag} {n} e h q =
-      elim (dec_le 7 (length l - i)) [
-        | yes m ↦
-            let w = tag_is i e in
-            let few : n ≤ 6 = omega (arith, counts-few tag) in
-            let k : 1 + n ≤ length l - i = omega arith in
-            let t : ltb (get_or (take 7 (drop i l)) 0 0) 7 ≡ true = lt-ltb (get_or (take 7 (drop i l)) 0 0) 7 (omega arith) in
-            let f = attribute_fields (attribute_from (take 7 (drop i l))) in
-            let d = ap (λ t. drop (get_or field_counts t 0) f) w ∙ ap (λ k. drop k f) (sym q) ∙ absent-words l i n m few in
-            simp (kept_at, attribute-read, words-at)
-            (sym (attribute-tests (take 7 (drop i l)) _ ∙ sym (only-true _ t) ∙ ap (λ ws. only Stop (all_up_to 0 ws) (At (i + 7) left)) d))
-        | no m ↦ let k : length l - i < 7 = omega arith in simp (kept_at, attribute-read, words-end, only_none)
+  -- An attribute's row.
+  pub judge_attribute : kept attribute_at l at ≡ only None (ltb (value_at l at) 7) absent_end
+  judge_attribute =
+      elim (dec_lt (value_at l at) 7) [
+        | yes h ↦ known h ∙ only-true _ (lt-ltb (value_at l at) 7 h)
+        | no h ↦ unknown h ∙ only-false _ (le-ltb (value_at l at) 7 (omega arith))
       ]

@@ -1,5 +1,5 @@
 -- What each step answers, over plain lists and numbers. Assumes nothing.
-use mathlib.Core.Path.{◌≡◌, refl, sym, ap, ◌∙◌}
+use mathlib.Core.Path.{◌≡◌, refl, sym, ◌∙◌}
 use Prim.Native.Nat.{ℕ, zero, suc, ◌+◌, ◌-◌, ◌/◌, ◌%◌, ◌^◌, ◌≤◌, ◌<◌}
 use native.Mathlib.Nat.{add-zero}
 use native.Mathlib.Numerals.{add-one}
@@ -11,7 +11,6 @@ use lib.Dec.{eqb, ltb, leb}
 use lib.ListN.{length, take, drop, get_or, drop_of_length-le, get_or-eq_default}
 use lib.Seq.{drop-cons}
 use borrow.Author.Tests.{le-leb, lt-leb}
-use Rattle.exact.specs.Got.{Got, got, stop}
 use Rattle.exact.specs.Basic.{pure}
 use Rattle.exact.specs.Repeat.{times, counted}
 use Rattle.exact.specs.Fixed.{raw}
@@ -19,10 +18,10 @@ use Rattle.exact.proofs.LawsSteps.{byte_at, byte-end, raw_at, raw-end}
 use Rattle.format.specs.Judge.{word, list_at}
 use Rattle.sheet.specs.Store.{words_in}
 use Rattle.sheet.proofs.LawsWords.{length-words_in}
+use Rattle.std.specs.Prelude.{Option, Some, None}
 use Rattle.judge.specs.declared.steps.Place.{Place}
-use Rattle.judge.specs.declared.steps.Place.TheVariants.{At, Stop}
-use Rattle.judge.specs.Steps.{thru, only, kept, spent, value_at, between, distance, all_up_to, small_list, optional}
-use Rattle.judge.proofs.LawsThru.{thru-bind, thru-map, thru-checked, only-thru, thru-pure, kept-thru, kept-only, kept_at, kept-none, only_none}
+use Rattle.judge.specs.Steps.{◌>>=◌, thru, only, place, kept, spent, value_at, between, all_up_to, small_list, optional}
+use Rattle.judge.proofs.LawsThru.{thru-bind, thru-map, thru-checked, only-thru, thru-pure, then-thru, then-only, kept_at, only_none}
 
 -- A word that is there ..
 pub word_at : {X : Type 0} (z : X) (l : List ℕ) (i : ℕ) (k : ℕ → ℕ → X) → i < length l → thru z (word l i) k ≡ k (get_or l i 0) (i + 1)
@@ -78,46 +77,33 @@ unfolding list_at counted
 list-raw z l i k = thru-bind z word (λ n. times n word) l i k ∙ word_same z l i _ _ (λ j. times-raw z (get_or l i 0) l j k)
 
 -- The place itself, or none.
-pub only-true : {b : Bool} (o : Place) → b ≡ true → o ≡ only Stop b o
+pub only-true : {A : Type 0} {b : Bool} (o : Option A) → b ≡ true → o ≡ only None b o
 unfolding only
 only-true o e = rw e
 
-pub only-false : {b : Bool} (o : Place) → b ≡ false → Stop ≡ only Stop b o
+pub only-false : {A : Type 0} {b : Bool} (o : Option A) → b ≡ false → None ≡ only None b o
 unfolding only
 only-false o e = rw e
 
--- The word at a place.
-pub value_in : (l : List ℕ) {at : Place} {i left : ℕ} → at ≡ At i left → get_or l i 0 ≡ value_at l at
-unfolding value_at
-value_in l e = rw e
-
-pub value_none : (l : List ℕ) {at : Place} → at ≡ Stop → 0 ≡ value_at l at
-unfolding value_at
-value_none l e = rw e
-
 -- Words, where there is room for them ..
-pub pass-many : (s : List ℕ) (n : ℕ) {from : Place} {i left room : ℕ} → from ≡ At i left → n ≤ room → room ≡ length s / 8 - i →
-    At (i + n) left ≡ kept (raw n) (words_in s) from
+pub pass-many : (s : List ℕ) (n : ℕ) (at : Place) {room : ℕ} → n ≤ room → room ≡ length s / 8 - at.word →
+    Some (place (at.word + n) at.left) ≡ kept (raw n) (words_in s) at
 unfolding kept
-pass-many s n {i = i} e h r = rw e (sym (words-at Stop n (words_in s) i _ (omega (arith, length-words_in s))))
+pass-many s n at h r = sym (words-at None n (words_in s) at.word _ (omega (arith, length-words_in s)))
 
 -- .. and where there is not.
-pub pass-few : (s : List ℕ) (n : ℕ) {from : Place} {i left room : ℕ} → from ≡ At i left → room < n → room ≡ length s / 8 - i →
-    Stop ≡ kept (raw n) (words_in s) from
+pub pass-few : (s : List ℕ) (n : ℕ) (at : Place) {room : ℕ} → room < n → room ≡ length s / 8 - at.word → None ≡ kept (raw n) (words_in s) at
 unfolding kept
-pass-few s n {i = i} e h r = rw e (sym (words-end Stop n (words_in s) i _ (omega (arith, length-words_in s))))
+pass-few s n at h r = sym (words-end None n (words_in s) at.word _ (omega (arith, length-words_in s)))
 
 -- One word.
-pub pass-one : (l : List ℕ) (from : Place) → kept (raw 1) l from ≡ kept word l from
+pub pass-one : (l : List ℕ) (at : Place) → kept (raw 1) l at ≡ kept word l at
 unfolding times
-pass-one l Stop = simp kept-none
-pass-one l (At i left) = simp kept_at (sym (times-raw Stop 1 l i (λ v j. At j left)) ∙ simp (thru-bind, thru-map, thru-pure))
+pass-one l at = simp kept_at (sym (times-raw None 1 l at.word (λ v j. Some (place j at.left))) ∙ simp (thru-bind, thru-map, thru-pure))
 
 -- A list.
-pub pass-list : (l : List ℕ) (from : Place) → kept (raw (value_at l from)) l (kept word l from) ≡ kept list_at l from
-unfolding value_at
-pass-list l Stop = simp kept-none
-pass-list l (At i left) = simp (kept_at, kept-thru) (sym (list-raw Stop l i (λ v j. At j left)))
+pub pass_list : (l : List ℕ) (at : Place) → kept list_at l at ≡ kept word l at >>= kept (raw (value_at l at)) l
+pass_list l at = sym (simp (kept_at, then-thru) (sym (list-raw None l at.word (λ v j. Some (place j at.left)))))
 
 no_words : (most : ℕ) (l : List ℕ) (i n : ℕ) → length l ≤ i → all_up_to most (take n (drop i l)) ≡ true
 unfolding all_up_to
@@ -153,100 +139,43 @@ module _ (most : ℕ) (l : List ℕ) (i end : ℕ) where
       ]
 
 -- A list of small numbers.
-module _ (l : List ℕ) (i left : ℕ) where
+module _ (l : List ℕ) (at : Place) where
   abbrev small : Type 0
   small =
-      only Stop (all_up_to (2 ^ 32 - 1) (between l (kept word l (At i left)) (kept list_at l (At i left)))) (kept list_at l (At i left)) ≡
-      kept small_list l (At i left)
+      kept small_list l at ≡
+      kept word l at >>= (λ start. kept list_at l at >>= (λ end. only None (all_up_to (2 ^ 32 - 1) (between l start end)) (Some end)))
 
-  small-in : i < length l → get_or l i 0 ≤ length l - (i + 1) → small
-  unfolding small_list between
+  small-in : at.word < length l → get_or l at.word 0 ≤ length l - (at.word + 1) → small
+  unfolding small_list
   small-in h m =
-      let e : i + 1 + get_or l i 0 - (i + 1) ≡ get_or l i 0 = omega arith in
-      simp (kept_at, thru-checked, list-raw, word_at, words-at) (rw e)
+      let e : at.word + 1 + get_or l at.word 0 - (at.word + 1) ≡ get_or l at.word 0 = omega arith in
+      simp (kept_at, thru-checked, list-raw, then-thru, word_at, words-at) (rw e)
 
-  small-out : i < length l → length l - (i + 1) < get_or l i 0 → small
+  small-out : at.word < length l → length l - (at.word + 1) < get_or l at.word 0 → small
   unfolding small_list
-  small-out h m = simp (kept_at, thru-checked, list-raw, word_at, words-end, only_none)
+  small-out h m = simp (kept_at, thru-checked, list-raw, then-thru, word_at, words-end, only_none)
 
-  small-end : length l ≤ i → small
+  small-end : length l ≤ at.word → small
   unfolding small_list
-  small-end h = simp (kept_at, thru-checked, list-raw, word_end, only_none)
+  small-end h = simp (kept_at, thru-checked, list-raw, then-thru, word_end, only_none)
 
-pub pass-small : (l : List ℕ) (from : Place) →
-    only Stop (all_up_to (2 ^ 32 - 1) (between l (kept word l from) (kept list_at l from))) (kept list_at l from) ≡ kept small_list l from
-pass-small l Stop = simp (kept-none, only_none)
-pass-small l (At i left) =
-    elim (dec_lt i (length l)) [
-      | yes h ↦ elim (dec_le (get_or l i 0) (length l - (i + 1))) [ yes m ↦ small-in l i left h m | no m ↦ small-out l i left h (omega arith) ]
-      | no h ↦ small-end l i left (omega arith)
-    ]
+  pub pass_small_list : small
+  pass_small_list =
+      elim (dec_lt at.word (length l)) [
+        | yes h ↦ elim (dec_le (get_or l at.word 0) (length l - (at.word + 1))) [ yes m ↦ small-in h m | no m ↦ small-out h (omega arith) ]
+        | no h ↦ small-end (omega arith)
+      ]
 
--- An optional field.
-pub pass-field : (l : List ℕ) (flags : ℕ) (wide : Bool) (from : Place) →
-    kept word l (only Stop ((eqb (flags % 2) 1 || eqb (value_at l from) 0) && (wide || ltb (value_at l from) 256)) from) ≡
-    kept (optional flags wide) l from
-unfolding optional value_at
-pass-field l flags wide Stop = simp (only_none, kept-none)
-pass-field l flags wide (At i left) = simp (kept-only, kept_at, only-thru, thru-checked) (word_same Stop l i _ _ (λ j. refl))
+  -- An optional field.
+  pub pass_optional : (flags : ℕ) (wide : Bool) →
+      kept (optional flags wide) l at ≡
+      only None ((eqb (flags % 2) 1 || eqb (value_at l at) 0) && (wide || ltb (value_at l at) 256)) (Some at) >>= kept word l
+  unfolding optional
+  pass_optional flags wide = simp (then-only, kept_at, only-thru, thru-checked) (word_same None l at.word _ _ (λ j. refl))
 
--- A length is taken from what is left.
-unfoldable less : ℕ → Place → Place
-less n (At j left) = only Stop (leb n left) (At j (left - n))
-less n Stop = Stop
-
-less-thru : (n : ℕ) (g : Got ℕ) (k : ℕ → ℕ → Place) → less n (thru Stop g k) ≡ thru Stop g (λ v j. less n (k v j))
-unfolding less thru
-less-thru n (got v j) k = refl
-less-thru n (stop c i) k = refl
-
-spent-less : (l : List ℕ) (from : Place) → less (value_at l from) (kept word l from) ≡ spent word (λ n. n) l from
-unfolding value_at spent kept less
-spent-less l Stop = refl
-spent-less l (At i left) = less-thru (get_or l i 0) (word l i) (λ v j. At j left) ∙ word_same Stop l i _ _ (λ j. refl)
-
-module _ (l : List ℕ) (from : Place) {n : ℕ} (e : n ≡ value_at l from) where
-  -- Where there is no word ..
-  pub length_none : {r : Place} → r ≡ Stop → r ≡ kept word l from → Stop ≡ spent word (λ n. n) l from
-  unfolding less
-  length_none h k = ap (less (value_at l from)) (sym h ∙ k) ∙ spent-less l from
-
-  -- .. where it is more than is left ..
-  pub length_more : {r : Place} {j left : ℕ} → r ≡ At j left → r ≡ kept word l from → left < n → Stop ≡ spent word (λ n. n) l from
-  unfolding less only
-  length_more {left = left} h k m =
-      let b : leb (value_at l from) left ≡ false = lt-leb (value_at l from) left (omega arith) in
-      rw (← spent-less l from, ← k, h, b)
-
-  -- .. and where it is not.
-  pub length_taken : {r : Place} {j left : ℕ} → r ≡ At j left → r ≡ kept word l from → n ≤ left →
-      At j (left - n) ≡ spent word (λ n. n) l from
-  unfolding less only
-  length_taken {left = left} h k m =
-      let b : leb (value_at l from) left ≡ true = le-leb (value_at l from) left (omega arith) in
-      rw (← spent-less l from, ← k, h, b, e)
-
--- The words from one place up to another.
-pub distance-in : {from to : Place} {i a j b : ℕ} → from ≡ At i a → to ≡ At j b → j - i ≡ distance from to
-unfolding distance
-distance-in e f = rw (e, f)
-
-pub distance_none : {from : Place} (to : Place) → from ≡ Stop → 0 ≡ distance from to
-unfolding distance
-distance_none to e = rw e
-
-pub distance-open : {from to : Place} {i a : ℕ} → from ≡ At i a → to ≡ Stop → 0 ≡ distance from to
-unfolding distance
-distance-open e f = rw (e, f)
-
-pub between_in : (l : List ℕ) {from to : Place} {i a j b : ℕ} → from ≡ At i a → to ≡ At j b → take (j - i) (drop i l) ≡ between l from to
-unfolding between
-between_in l e f = rw (e, f)
-
-pub between_none : (most : ℕ) (l : List ℕ) {from : Place} (to : Place) → from ≡ Stop → true ≡ all_up_to most (between l from to)
-unfolding between all_up_to
-between_none most l to e = rw e
-
-pub between-open : (most : ℕ) (l : List ℕ) {from to : Place} {i a : ℕ} → from ≡ At i a → to ≡ Stop → true ≡ all_up_to most (between l from to)
-unfolding between all_up_to
-between-open most l e f = rw (e, f)
+  -- A length is taken from what is left.
+  pub pass_length :
+      spent word (λ n. n) l at ≡
+      kept word l at >>= (λ next. only None (leb (value_at l at) at.left) (Some (place next.word (at.left - value_at l at))))
+  unfolding spent
+  pass_length = simp (kept_at, then-thru) (word_same None l at.word _ _ (λ j. refl))

@@ -9,9 +9,9 @@ use Rattle.exact.specs.Basic.{pure, fail}
 use Rattle.exact.specs.Sequence.{bind}
 use Rattle.exact.specs.Sequence as sequence
 use Rattle.exact.specs.Choice.{choose, such}
+use Rattle.std.specs.Prelude.{Option, Some, None, option_and_then}
 use Rattle.judge.specs.declared.steps.Place.{Place}
-use Rattle.judge.specs.declared.steps.Place.TheVariants.{At, Stop}
-use Rattle.judge.specs.Steps.{thru, only, holds, checked, kept}
+use Rattle.judge.specs.Steps.{thru, only, holds, checked, place, kept}
 
 module _ {X : Type 0} (z : X) where
   thru-follow : {A B : Type 0} (g : Got A) (f : A → ℕ → Got B) (k : B → ℕ → X) →
@@ -73,31 +73,24 @@ module _ {X : Type 0} (z : X) where
   only-and false b x = refl
 
 -- A step from where something was read ..
-pub kept-thru : {A B : Type 0} (p : Parser A) (l : List ℕ) (g : Got B) (k : B → ℕ → Place) →
-    kept p l (thru Stop g k) ≡ thru Stop g (λ v j. kept p l (k v j))
-unfolding kept thru
-kept-thru p l (got v j) k = refl
-kept-thru p l (stop c i) k = refl
+pub then-thru : {A B C : Type 0} (f : B → Option C) (g : Got A) (k : A → ℕ → Option B) →
+    option_and_then f (thru None g k) ≡ thru None g (λ v j. option_and_then f (k v j))
+unfolding thru
+then-thru f (got v j) k = refl
+then-thru f (stop c i) k = refl
 
 -- .. and from where a test was passed.
-pub kept-only : {A : Type 0} (p : Parser A) (l : List ℕ) (b : Bool) (o : Place) → kept p l (only Stop b o) ≡ only Stop b (kept p l o)
-unfolding kept only
-kept-only p l true o = refl
-kept-only p l false o = refl
+pub then-only : {B C : Type 0} (f : B → Option C) (b : Bool) (o : Option B) →
+    option_and_then f (only None b o) ≡ only None b (option_and_then f o)
+unfolding only
+then-only f true o = refl
+then-only f false o = refl
 
-pub kept_at : {A : Type 0} (p : Parser A) (l : List ℕ) (i left : ℕ) → kept p l (At i left) ≡ thru Stop (p l i) (λ v j. At j left)
+pub kept_at : {A : Type 0} (p : Parser A) (l : List ℕ) (at : Place) → kept p l at ≡ thru None (p l at.word) (λ v j. Some (place j at.left))
 unfolding kept
-kept_at p l i left = refl
+kept_at p l at = refl
 
-pub kept-none : {A : Type 0} (p : Parser A) (l : List ℕ) → kept p l Stop ≡ Stop
-unfolding kept
-kept-none p l = refl
-
-pub only_none : (b : Bool) → only Stop b Stop ≡ Stop
+pub only_none : {A : Type 0} (b : Bool) → only {X = Option A} None b None ≡ None
 unfolding only
 only_none true = refl
 only_none false = refl
-
-pub kept_from : {A : Type 0} (p : Parser A) (l : List ℕ) {from : Place} → from ≡ Stop → Stop ≡ kept p l from
-unfolding kept
-kept_from p l e = rw e

@@ -1,3 +1,4 @@
+pub mod LawsBodies
 pub mod LawsJudge
 pub mod LawsKinds
 pub mod LawsPlaced
@@ -7,4 +8,3 @@ pub mod LawsTables
 pub mod LawsTests
 pub mod LawsThru
 pub mod LawsTypes
-pub mod LawsBodies

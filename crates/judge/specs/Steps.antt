@@ -1,5 +1,5 @@
 -- What the steps over the words of a sheet answer (document 01, "The sheet"), over the parsers of words that judge it.
-use Rattle.std.specs.Prelude.{ℕ, ◌-◌, ◌%◌, ◌^◌, Bool, true, false, ◌||◌, ◌&&◌, List, [], ◌∷◌, eqb, ltb, leb, take, drop, get_or}
+use Rattle.std.specs.Prelude.{ℕ, ◌-◌, ◌%◌, ◌^◌, Bool, true, false, ◌||◌, ◌&&◌, List, [], ◌∷◌, eqb, ltb, leb, take, drop, get_or, Option, Some, None, option_and_then}
 use Rattle.exact.specs.Got.{Got, got, stop}
 use Rattle.exact.specs.Exact.{Parser}
 use Rattle.exact.specs.Basic.{pure, fail}
@@ -10,12 +10,16 @@ use Rattle.format.specs.Tables.{TypeRow}
 use Rattle.format.specs.Tests.{type?}
 use Rattle.format.specs.Judge.{word, list_at}
 use Rattle.judge.specs.declared.steps.Place.{Place}
-use Rattle.judge.specs.declared.steps.Place.TheVariants.{At, Stop}
 
 -- Goes on with a value and the place behind it; z where there is a refusal.
 unfoldable pub thru : {A X : Type 0} → X → Got A → (A → ℕ → X) → X
 thru z (got v j) k = k v j
 thru z (stop c i) k = z
+
+-- Goes on from the place where a step ended, as `?` does.
+infixl 10 ◌>>=◌
+abbrev pub ◌>>=◌ : {A B : Type 0} → Option A → (A → Option B) → Option B
+o >>= f = option_and_then f o
 
 -- x if a test was passed, else z.
 unfoldable pub only : {X : Type 0} → X → Bool → X → X
@@ -31,31 +35,28 @@ holds (no h) = false
 unfoldable pub checked : {A : Type 0} → (A → Bool) → Parser A → Parser A
 checked t p = bind p (λ v. only (fail refusals.unsound) (t v) (pure v))
 
+-- The place at word i, with so much left.
+abbrev pub place : ℕ → ℕ → Place
+place i left = record { word = i; left = left }
+
 -- A step by p: where it ends. What is left of the pool's length stays.
-unfoldable pub kept : {A : Type 0} → Parser A → List ℕ → Place → Place
-kept p l (At i left) = thru Stop (p l i) (λ v j. At j left)
-kept p l Stop = Stop
+unfoldable pub kept : {A : Type 0} → Parser A → List ℕ → Place → Option Place
+kept p l at = thru None (p l at.word) (λ v j. Some (place j at.left))
 
 -- A step by p whose value has a length, which is taken from what is left.
-unfoldable pub spent : {A : Type 0} → Parser A → (A → ℕ) → List ℕ → Place → Place
-spent p f l (At i left) = thru Stop (p l i) (λ v j. only Stop (leb (f v) left) (At j (left - f v)))
-spent p f l Stop = Stop
+unfoldable pub spent : {A : Type 0} → Parser A → (A → ℕ) → List ℕ → Place → Option Place
+spent p f l at = thru None (p l at.word) (λ v j. only None (leb (f v) at.left) (Some (place j (at.left - f v))))
 
 -- The word at a place; 0 where there is none.
-unfoldable pub value_at : List ℕ → Place → ℕ
-value_at l (At i left) = get_or l i 0
-value_at l Stop = 0
+abbrev pub value_at : List ℕ → Place → ℕ
+value_at l at = get_or l at.word 0
 
 -- The words from one place up to another, and how many these are.
-unfoldable pub between : List ℕ → Place → Place → List ℕ
-between l (At i a) (At j b) = take (j - i) (drop i l)
-between l (At i a) Stop = []
-between l Stop to = []
+abbrev pub between : List ℕ → Place → Place → List ℕ
+between l at end = take (end.word - at.word) (drop at.word l)
 
-unfoldable pub distance : Place → Place → ℕ
-distance (At i a) (At j b) = j - i
-distance (At i a) Stop = 0
-distance Stop to = 0
+abbrev pub distance : Place → Place → ℕ
+distance at end = end.word - at.word
 
 -- Whether all are at most this one.
 unfoldable pub all_up_to : ℕ → List ℕ → Bool

@@ -1,7 +1,7 @@
--- `judge_function` passes four words and a length, and tests the flags. Assumes nothing.
-use Rattle.sheet.specs.Store.{words_in}
-use Rattle.judge.proofs.LawsRows.{function-steps}
+-- `judge_function` looks at a word that it has passed. Assumes nothing.
+use native.Mathlib.Omega.{arith}
+use Rattle.judge.proofs.LawsRows.{passed-words}
 use Rattle.judge.proofs.rows.judge_function.Goals as goal
 
-pub returns : goal.returns
-returns c = cc (function-steps (words_in c.args.sheet.now) c.args.at)
+pub overflow_add-at : goal.overflow_add-at
+overflow_add-at c = let h = passed-words 4 _ _ _ c.in_ok-body.ensures in omega arith

@@ -1,7 +1,10 @@
--- `judge_global` passes six words and tests two of them. Assumes nothing.
-use Rattle.sheet.specs.Store.{words_in}
-use Rattle.judge.proofs.LawsRows.{global-steps}
+-- `judge_global` looks at words that it has passed. Assumes nothing.
+use native.Mathlib.Omega.{arith}
+use Rattle.judge.proofs.LawsRows.{passed-words}
 use Rattle.judge.proofs.rows.judge_global.Goals as goal
 
-pub returns : goal.returns
-returns c = cc (global-steps c.args.class (words_in c.args.sheet.now) c.args.at)
+pub overflow_add-at : goal.overflow_add-at
+overflow_add-at c = let h = passed-words 6 _ _ _ c.in_ok-end.ensures in omega arith
+
+pub overflow_add-at-2 : goal.overflow_add-at-2
+overflow_add-at-2 c = let h = passed-words 6 _ _ _ c.in_ok-end.ensures in omega arith

@@ -4,11 +4,8 @@ use Prim.Native.Nat.{◌-◌}
 use lib.ListN.{take, drop}
 use Rattle.sheet.specs.Store.{words_in}
 use Rattle.judge.specs.Steps.{all_up_to}
-use Rattle.judge.proofs.steps.all_up_to.Given as goal
+use Rattle.judge.proofs.steps.Place.all_up_to.Given as goal
 
 abbrev pub invariant-loop-i : goal.invariant-loop-i
 invariant-loop-i l =
-    all_up_to l.most (take (l.end - l.i) (drop l.i (words_in l.sheet))) ≡ all_up_to l.most (take (l.end - l.word) (drop l.word (words_in l.sheet)))
-
-abbrev pub decreases-loop-i : goal.decreases-loop-i
-decreases-loop-i l = l.end - l.i
+    all_up_to l.most (take (l.fn.end.word - l.i) (drop l.i (words_in l.sheet))) ≡ all_up_to l.most (take (l.fn.end.word - l.fn.self.word) (drop l.fn.self.word (words_in l.sheet)))

@@ -1,7 +1,0 @@
--- `strided_view` judges the fields of its kind. Assumes nothing.
-use Rattle.sheet.specs.Store.{words_in}
-use Rattle.judge.proofs.LawsTypes.{strided-steps}
-use Rattle.judge.proofs.types.strided_view.Goals as goal
-
-pub returns : goal.returns
-returns c = cc (strided-steps c.args.class (words_in c.args.sheet.now) c.args.at)
