@@ -1,5 +1,6 @@
 -- What is answered of a handed sheet, by what the judge says of it. Assumes nothing.
-use Rattle.std.proofs.Common.{Result, Ok, Err, ◌≡◌, ℕ, ◌^◌, ◌<◌, List, length, replicate, sym, ap, ◌∙◌, arith}
+use Rattle.std.proofs.Common.{Result, Ok, Err, ◌≡◌, ℕ, ◌^◌, ◌<◌, List, length, replicate, sym, refl, ap, ◌∙◌, arith}
+use Rattle.std.specs.Prelude as code
 use native.Mathlib.Decide.{ℕ_discrete}
 use mathlib.Core.Option.{none, some}
 use lib.ListN.{length-replicate}
@@ -17,13 +18,20 @@ use Rattle.format.proofs.Sheets.{sheet-judged, judged-pool}
 use Rattle.sheet.specs.Store.{words_in}
 use Rattle.sheet.proofs.LawsWords.{length-words_in}
 use Rattle.judge.specs.declared.Judged.{Judged}
-use Rattle.judge.specs.declared.SheetJudged.{SheetJudged}
-use Rattle.judge.specs.declared.SheetJudged.TheVariants as sheet
 use Rattle.judge.specs.Judge.{judged_bytes, judged_read, summary}
 use Rattle.judge.proofs.LawsPlaced.{stopped_none, judged-words, Passes, passed-of}
 use Rattle.images.specs.Written.{image_size, length_of, in_room, with_image, Told, ImageTold, JudgedWritten}
 use Rattle.enums.specs.declared.Refusal.{Refusal}
 use Rattle.enums.specs.declared.Refusal.TheVariants as refusal
+
+-- What `ok_or` was given, by what it answers.
+pub ok_some : (o : code.Option Judged) (e : Refusal) {j : Judged} → Ok j ≡ code.ok_or o e → o ≡ code.Some j
+ok_some code.None e h = cc
+ok_some (code.Some b) e h = cc
+
+pub err-none : (o : code.Option Judged) (e : Refusal) {x : Refusal} → Err x ≡ code.ok_or o e → (o ≡ code.None) × (x ≡ e)
+err-none code.None e h = (refl, cc)
+err-none (code.Some b) e h = (cc, cc)
 
 -- The tables that a judged sheet and a pool stand for.
 module _ (s pool : List ℕ) (short : length s < 2 ^ 63) {j : Judged} (p : Passes s j) (n : length pool ≡ pool_length p.frame)
@@ -48,13 +56,13 @@ module _ (s pool : List ℕ) (short : length s < 2 ^ 63) {j : Judged} (p : Passe
         q.1,
       )
 
-module _ (s : List ℕ) {x : SheetJudged} (e : judged_read x ≡ summary (judged_bytes s)) where
+module _ (s : List ℕ) {x : code.Option Judged} (e : judged_read x ≡ summary (judged_bytes s)) where
   -- The sheet is not well-formed ..
-  pub image-stopped : x ≡ sheet.Stop → image_size (Err refusal.Sheet) ≡ length_of (imaged (blank (judged_bytes s)))
+  pub image-stopped : x ≡ code.None → image_size (Err refusal.Sheet) ≡ length_of (imaged (blank (judged_bytes s)))
   unfolding length_of imaged blank
   image-stopped h = sym (ap (λ o. length_of (imaged (blank o))) (stopped_none (judged_bytes s) (sym (ap judged_read h) ∙ e)))
 
-  pub write-stopped : (pool out : List ℕ) → x ≡ sheet.Stop →
+  pub write-stopped : (pool out : List ℕ) → x ≡ code.None →
       (image_size (Err refusal.Sheet) ≡ in_room (length out) (imaged (with_pool pool (judged_bytes s)))) ×
       (out ≡ with_image out (imaged (with_pool pool (judged_bytes s))))
   unfolding in_room with_image imaged with_pool
@@ -64,7 +72,7 @@ module _ (s : List ℕ) {x : SheetJudged} (e : judged_read x ≡ summary (judged
         sym (ap (λ o. with_image out (imaged (with_pool pool o))) o),
       )
 
-  module _ {j : Judged} (h : x ≡ sheet.Passed j) where
+  module _ {j : Judged} (h : x ≡ code.Some j) where
     passes : Passes s j
     passes = passed-of s j (sym (ap judged_read h) ∙ e)
 

@@ -20,19 +20,14 @@ ghost use Rattle.judge.specs.Judge.{judged_bytes};
 ghost use Rattle.images.specs.Written.{image_size, length_of, in_room, with_image};
 
 use enums::Refusal;
-use judge::SheetJudged;
 
 // The length of the image of a handed sheet. Lent no pool, so that word 4 is compared with the row sum only.
 pub fn image(sheet: &[u8]) -> Result<usize, Refusal>
     ensures { image_size result ≡ length_of (imaged (blank (judged_bytes sheet.now))) }
 {
-    match judge::judge(sheet) {
-        SheetJudged::Stop => Err(Refusal::Sheet),
-        SheetJudged::Passed(judged) => {
-            let pool: [u8; 0] = [];
-            judged::image_length(sheet, judged, &pool)
-        }
-    }
+    let judged = judge::judge(sheet).ok_or(Refusal::Sheet)?;
+    let pool: [u8; 0] = [];
+    judged::image_length(sheet, judged, &pool)
 }
 
 // The image of a handed sheet and its pool. A refused call has written nothing: all is judged and measured before.
@@ -40,13 +35,9 @@ pub fn write(sheet: &[u8], pool: &[u8], out: &mut [u8]) -> Result<usize, Refusal
     ensures result_value { image_size result ≡ in_room (length out.old) (imaged (with_pool pool.now (judged_bytes sheet.now))) }
     ensures out_after { out.new ≡ with_image out.old (imaged (with_pool pool.now (judged_bytes sheet.now))) }
 {
-    match judge::judge(sheet) {
-        SheetJudged::Stop => Err(Refusal::Sheet),
-        SheetJudged::Passed(judged) => {
-            if judged.pool != pool.len() as u64 {
-                return Err(Refusal::Sheet);
-            }
-            judged::write_judged(sheet, judged, pool, out)
-        }
+    let judged = judge::judge(sheet).ok_or(Refusal::Sheet)?;
+    if judged.pool != pool.len() as u64 {
+        return Err(Refusal::Sheet);
     }
+    judged::write_judged(sheet, judged, pool, out)
 }
