@@ -69,17 +69,17 @@ fn put_alignment(out: &mut [u8], at: usize, alignment: Option<usize>) -> usize
 }
 
 // How far a payload takes the pen from place 0, without its bytes: its length, and where the pool goes on.
-fn measure_payload(source: Source, section: Section, pen: Pen) -> Pen
-    ensures { PayloadPut section source.entry.class source.entry.sheet.now source.entry.pool.now (record { word = pen.word; run = pen.run; at = 0 }) [] [] result }
+fn measure_payload(source: &Source, section: Section, pen: Pen) -> Pen
+    ensures { PayloadPut section source.now.class source.now.sheet.now source.now.pool.now (record { word = pen.word; run = pen.run; at = 0 }) [] [] result }
 {
     let mut nowhere: [u8; 0] = [];
     put_payload(source, section, &mut nowhere, Pen { at: 0, ..pen })
 }
 
 // A payload that was measured. Into an output of no bytes it is not put once more.
-fn put_measured(source: Source, section: Section, measured: Pen, out: &mut [u8], pen: Pen) -> Pen
-    requires { PayloadPut section source.class source.sheet.now source.pool.now (record { word = pen.word; run = pen.run; at = 0 }) [] [] measured }
-    ensures { PayloadPut section source.entry.class source.entry.sheet.now source.entry.pool.now pen out.old out.new result }
+fn put_measured(source: &Source, section: Section, measured: Pen, out: &mut [u8], pen: Pen) -> Pen
+    requires { PayloadPut section source.now.class source.now.sheet.now source.now.pool.now (record { word = pen.word; run = pen.run; at = 0 }) [] [] measured }
+    ensures { PayloadPut section source.now.class source.now.sheet.now source.now.pool.now pen out.old out.new result }
 {
     if out.is_empty() {
         return Pen {
@@ -91,8 +91,8 @@ fn put_measured(source: Source, section: Section, measured: Pen, out: &mut [u8],
 }
 
 // A section, if it is written. Its payload is measured first, since its length stands before it.
-fn put_section(source: Source, section: Section, out: &mut [u8], pen: Pen) -> Pen
-    ensures { SectionPut section source.entry.class source.entry.sheet.now source.entry.pool.now pen out.old out.new result }
+fn put_section(source: &Source, section: Section, out: &mut [u8], pen: Pen) -> Pen
+    ensures { SectionPut section source.now.class source.now.sheet.now source.now.pool.now pen out.old out.new result }
 {
     if !is_present(source.sheet, section) {
         return pen;
@@ -123,8 +123,8 @@ fn put_header(sheet: &[u8], out: &mut [u8]) -> usize
 
 // The image of a sheet that was judged, and of its pool; into an output of no bytes, only its length, for which the
 // pool may be left out.
-pub fn put_image(source: Source, out: &mut [u8]) -> usize
-    ensures { ImagePut source.entry.class source.entry.sheet.now source.entry.pool.now out.old out.new result }
+pub fn put_image(source: &Source, out: &mut [u8]) -> usize
+    ensures { ImagePut source.now.class source.now.sheet.now source.now.pool.now out.old out.new result }
 {
     let header = Pen {
         word: 0,

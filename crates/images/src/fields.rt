@@ -4,7 +4,7 @@ ghost use Rattle.std.specs.Prelude.{◌≡◌};
 ghost use Rattle.images.specs.Put.{Wrote};
 ghost use Rattle.images.specs.Fields.{bytes_as, NumberCopied, NumberCopiedWhere, NumbersCopied, WordsSkipped, ListCopied};
 
-use crate::put::{put_le, put_varint};
+use crate::put::{put_le, put_u64, put_varint};
 
 // How far the writer is: the next word of the sheet, the next byte of the pool, the next place of the output.
 #[derive(Clone, Copy)]
@@ -30,11 +30,12 @@ pub fn put_number(out: &mut [u8], at: usize, number: Number, v: u64) -> usize
         Number::Varint => put_varint(out, at, v),
         Number::Byte => put_le(out, at, v, 1),
         Number::I32 => put_le(out, at, v, 4),
-        Number::I64 => put_le(out, at, v, 8),
+        Number::I64 => put_u64(out, at, v),
     }
 }
 
 // Copies the next word.
+#[inline]
 pub fn copy_number(sheet: &[u8], number: Number, out: &mut [u8], pen: Pen) -> Pen
     ensures { NumberCopied number sheet.now pen out.old out.new result }
 {
@@ -68,6 +69,7 @@ pub fn copy_where(sheet: &[u8], test: bool, number: Number, out: &mut [u8], pen:
 }
 
 // Copies the next `count` words.
+#[inline]
 pub fn copy_numbers(sheet: &[u8], number: Number, count: u64, out: &mut [u8], pen: Pen) -> Pen
     ensures { NumbersCopied number count sheet.now pen out.old out.new result }
 {
@@ -79,6 +81,7 @@ pub fn copy_numbers(sheet: &[u8], number: Number, count: u64, out: &mut [u8], pe
 }
 
 // Copies a count, as a varint, and as many words.
+#[inline]
 pub fn copy_list(sheet: &[u8], number: Number, out: &mut [u8], pen: Pen) -> Pen
     ensures { ListCopied number sheet.now pen out.old out.new result }
 {

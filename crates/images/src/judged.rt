@@ -25,12 +25,12 @@ pub fn image_length(sheet: &[u8], judged: Judged, pool: &[u8]) -> Result<usize, 
     };
     if judged.pool <= MOST_POOL {
         let mut nowhere: [u8; 0] = [];
-        let size = put_image(source, &mut nowhere);
+        let size = put_image(&source, &mut nowhere);
         if size <= MOST_BYTES {
             return Ok(size);
         }
     }
-    if starts_fit(source) {
+    if starts_fit(&source) {
         Err(Refusal::Limit)
     } else {
         Err(Refusal::Start)
@@ -55,6 +55,6 @@ pub fn write_judged(
         pool,
         class: judged.class,
     };
-    put_image(source, out);
+    put_image(&source, out);
     Ok(size)
 }

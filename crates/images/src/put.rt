@@ -7,6 +7,8 @@ ghost use Rattle.enums.specs.Container.{P};
 ghost use Rattle.encoding.specs.Varint.{spelling};
 ghost use Rattle.images.specs.Put.{Wrote, RunPut};
 
+use encoding::EncodingWriter;
+
 // Puts a byte.
 pub fn put_byte(out: &mut [u8], at: usize, b: u8) -> usize
     ensures { Wrote (b ∷ []) at out.old out.new result }
@@ -45,6 +47,18 @@ pub fn put_le(out: &mut [u8], at: usize, value: u64, width: usize) -> usize
         rest = rest / 256;
     }
     next
+}
+
+// Puts a 64-bit number, the lowest byte first. Where it has room it takes one store.
+pub fn put_u64(out: &mut [u8], at: usize, value: u64) -> usize
+    ensures { Wrote (bytes_of 8 value) at out.old out.new result }
+{
+    let writer = EncodingWriter {
+        at,
+        required_alignment: 1,
+    };
+    let _ = writer.write_le_u64(out, value);
+    at.wrapping_add(8)
 }
 
 // How many bytes of padding take a place to a multiple of an alignment.

@@ -93,8 +93,8 @@ fn put_list(sheet: &[u8], out: &mut [u8], pen: Pen) -> Pen
 }
 
 // A row, by its kind.
-pub fn put_row(source: Source, row: Row, out: &mut [u8], pen: Pen) -> Pen
-    ensures { RowCopied source.entry.class row source.entry.sheet.now source.entry.pool.now pen out.old out.new result }
+pub fn put_row(source: &Source, row: Row, out: &mut [u8], pen: Pen) -> Pen
+    ensures { RowCopied source.now.class row source.now.sheet.now source.now.pool.now pen out.old out.new result }
 {
     match row {
         Row::Run => put_run(source.sheet, source.pool, out, pen),
@@ -107,8 +107,8 @@ pub fn put_row(source: Source, row: Row, out: &mut [u8], pen: Pen) -> Pen
 }
 
 // The rows of a table. The pen's word stays: tables are found by the contents.
-pub fn put_rows(source: Source, table: Table, out: &mut [u8], pen: Pen) -> Pen
-    ensures { RowsPut source.entry.class table (λ xs. join (map (row_bytes source.entry.class table.row) xs)) source.entry.sheet.now source.entry.pool.now pen out.old out.new result }
+pub fn put_rows(source: &Source, table: Table, out: &mut [u8], pen: Pen) -> Pen
+    ensures { RowsPut source.now.class table (λ xs. join (map (row_bytes source.now.class table.row) xs)) source.now.sheet.now source.now.pool.now pen out.old out.new result }
 {
     let mut next = Pen {
         word: table.word,

@@ -28,8 +28,8 @@ pub fn table_at(sheet: &[u8], contents: usize, row: Row, width: usize) -> Table
 }
 
 // A count, and the rows of a table.
-fn put_counted(source: Source, table: Table, out: &mut [u8], pen: Pen) -> Pen
-    ensures { RowsPut source.entry.class table (λ xs. spelling table.count ++ join (map (row_bytes source.entry.class table.row) xs)) source.entry.sheet.now source.entry.pool.now pen out.old out.new result }
+fn put_counted(source: &Source, table: Table, out: &mut [u8], pen: Pen) -> Pen
+    ensures { RowsPut source.now.class table (λ xs. spelling table.count ++ join (map (row_bytes source.now.class table.row) xs)) source.now.sheet.now source.now.pool.now pen out.old out.new result }
 {
     let first = put_varint(out, pen.at, table.count);
     put_rows(source, table, out, Pen { at: first, ..pen })
@@ -49,8 +49,8 @@ fn put_producer(sheet: &[u8], out: &mut [u8], pen: Pen) -> Pen
 }
 
 // The debug lists: their starts, counted in ids, and behind them the ids of all lists.
-fn put_lists(source: Source, out: &mut [u8], pen: Pen) -> Pen
-    ensures { ListsPut source.entry.class source.entry.sheet.now source.entry.pool.now pen out.old out.new result }
+fn put_lists(source: &Source, out: &mut [u8], pen: Pen) -> Pen
+    ensures { ListsPut source.now.class source.now.sheet.now source.now.pool.now pen out.old out.new result }
 {
     let lists = table_at(source.sheet, 17, Row::List, 4);
     let first = put_count(out, pen.at, pen.at, lists.count, lists.width);
@@ -59,8 +59,8 @@ fn put_lists(source: Source, out: &mut [u8], pen: Pen) -> Pen
     put_rows(source, lists, out, Pen { at: numbers, ..pen })
 }
 
-fn put_debug(source: Source, out: &mut [u8], pen: Pen) -> Pen
-    ensures { PayloadPut parts.Debug source.entry.class source.entry.sheet.now source.entry.pool.now pen out.old out.new result }
+fn put_debug(source: &Source, out: &mut [u8], pen: Pen) -> Pen
+    ensures { PayloadPut parts.Debug source.now.class source.now.sheet.now source.now.pool.now pen out.old out.new result }
 {
     let next = put_lists(source, out, pen);
     let attributes = table_at(source.sheet, 15, Row::Attribute, 4);
@@ -68,8 +68,8 @@ fn put_debug(source: Source, out: &mut [u8], pen: Pen) -> Pen
 }
 
 // The payload of a section.
-pub fn put_payload(source: Source, section: Section, out: &mut [u8], pen: Pen) -> Pen
-    ensures { PayloadPut section source.entry.class source.entry.sheet.now source.entry.pool.now pen out.old out.new result }
+pub fn put_payload(source: &Source, section: Section, out: &mut [u8], pen: Pen) -> Pen
+    ensures { PayloadPut section source.now.class source.now.sheet.now source.now.pool.now pen out.old out.new result }
 {
     match section {
         Section::String => {

@@ -15,8 +15,8 @@ use enums::{BytePosition, IdPosition};
 const MOST_START: usize = u32::MAX as usize;
 
 // Whether the starts of a table's entries fit.
-fn entries_fit(source: Source, table: Table) -> bool
-    ensures { StartsTold source.entry.class table.row (row_bytes source.entry.class table.row) table.count source.entry.sheet.now table.word 0 result }
+fn entries_fit(source: &Source, table: Table) -> bool
+    ensures { StartsTold source.now.class table.row (row_bytes source.now.class table.row) table.count source.now.sheet.now table.word 0 result }
 {
     let mut this = Entry {
         word: table.word,
@@ -49,8 +49,8 @@ fn lists_fit(sheet: &[u8], table: Table) -> bool
 }
 
 // Whether all u32 starts fit: those of strings, types, debug lists and attributes. Nothing is put.
-pub fn starts_fit(source: Source) -> bool
-    ensures { FitTold source.entry.class source.entry.sheet.now result }
+pub fn starts_fit(source: &Source) -> bool
+    ensures { FitTold source.now.class source.now.sheet.now result }
 {
     let strings = table_at(source.sheet, 5, Row::Run, 4);
     let types = table_at(source.sheet, 7, Row::Type, 4);

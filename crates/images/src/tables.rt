@@ -43,8 +43,8 @@ pub fn put_count(out: &mut [u8], base: usize, at: usize, count: u64, alignment: 
 }
 
 // The entry behind this one.
-pub fn next_entry(source: Source, row: Row, this: Entry<BytePosition>) -> Entry<BytePosition>
-    ensures { NextEntry source.entry.class row (row_bytes source.entry.class row) source.entry.sheet.now this.word this.start.0 result.word result.start.0 }
+pub fn next_entry(source: &Source, row: Row, this: Entry<BytePosition>) -> Entry<BytePosition>
+    ensures { NextEntry source.now.class row (row_bytes source.now.class row) source.now.sheet.now this.word this.start.0 result.word result.start.0 }
 {
     let begin = Pen {
         word: this.word,
@@ -71,8 +71,8 @@ pub fn next_list(sheet: &[u8], this: Entry<IdPosition>) -> Entry<IdPosition>
 }
 
 // The starts of a table's entries, the first of them 0. Into an output of no bytes they are only counted.
-pub fn put_starts(source: Source, table: Table, out: &mut [u8], at: usize) -> usize
-    ensures { StartsPut source.entry.class table.row (row_bytes source.entry.class table.row) table.width table.count source.entry.sheet.now table.word 0 at out.old out.new result }
+pub fn put_starts(source: &Source, table: Table, out: &mut [u8], at: usize) -> usize
+    ensures { StartsPut source.now.class table.row (row_bytes source.now.class table.row) table.width table.count source.now.sheet.now table.word 0 at out.old out.new result }
 {
     if out.is_empty() {
         return at.wrapping_add((table.count as usize).wrapping_mul(table.width));
@@ -109,8 +109,8 @@ pub fn put_list_starts(sheet: &[u8], table: Table, out: &mut [u8], at: usize) ->
 }
 
 // An offset table in a payload that begins at `base`.
-pub fn put_table(source: Source, table: Table, out: &mut [u8], base: usize, pen: Pen) -> Pen
-    ensures { TablePut source.entry.class table base source.entry.sheet.now source.entry.pool.now pen out.old out.new result }
+pub fn put_table(source: &Source, table: Table, out: &mut [u8], base: usize, pen: Pen) -> Pen
+    ensures { TablePut source.now.class table base source.now.sheet.now source.now.pool.now pen out.old out.new result }
 {
     let first = put_count(out, base, pen.at, table.count, table.width);
     let data = put_starts(source, table, out, first);

@@ -16,4 +16,4 @@ returns-in-I32 c = rw c.in-I32.is c.put_le-in-I32.ensures
 
 pub returns-in-I64 : goal.returns-in-I64
 unfolding bytes_as
-returns-in-I64 c = rw c.in-I64.is c.put_le-in-I64.ensures
+returns-in-I64 c = rw c.in-I64.is c.put_u64.ensures

@@ -7,10 +7,10 @@ use Rattle.images.proofs.starts.starts_fit.Goals.{Joined-entries_fit-2, then-ent
 
 -- What is told once three tables were asked.
 three : (c : Joined-entries_fit-2) →
-    PartTold c.args.source.class c.args.source.sheet.now (λ t. (StringsFit t × TypesFit t) × ListsFit t) c.if-entries_fit-2.value
+    PartTold c.args.source.now.class c.args.source.now.sheet.now (λ t. (StringsFit t × TypesFit t) × ListsFit t) c.if-entries_fit-2.value
 three c =
     let strings = strings-told (entries-told row.Run 5 6 4 c.table_at-strings.ensures c.entries_fit.ensures) in
-    let two : PartTold c.args.source.class c.args.source.sheet.now (λ t. StringsFit t × TypesFit t) c.if-entries_fit.value =
+    let two : PartTold c.args.source.now.class c.args.source.now.sheet.now (λ t. StringsFit t × TypesFit t) c.if-entries_fit.value =
     elim c.if-entries_fit.branch [
       | then-entries_fit w ↦
           both-told strings w.if-entries_fit.true
