@@ -1,4 +1,5 @@
 -- The lists' starts and ids, and the attributes behind them, are the payload of Debug. Assumes nothing.
+use Rattle.images.proofs.LawsSections.{table_is, producer-named, producer-unnamed, strings-payload, types-payload, constants-payload, globals-payload, functions-payload}
 use Rattle.std.proofs.Common.{◌≡◌, ℕ, ◌+◌, List, [], ◌∷◌, ◌++◌, map, length, get_or, sym, refl, ap, ◌∙◌, subst, ap₂, append_assoc, add-zero, zero-add, arith, length-append}
 use Rattle.exact.specs.Fixed.{bytes_of}
 use Rattle.exact.specs.Tiling.{join, sums}
@@ -125,3 +126,6 @@ debug-payload {c} {s} {pool} {p} {z} {q} {out} {mid} {out'} x e y =
           (((subst (λ k. TablePut c k p.at s pool z mid out' q) e y).each (length (starts ++ ids)) g).each t.attributes
           (placed-in h 15 16 (attributes-placed t h.sound)) (fit-in h)))));
     }
+
+-- The laws by which the check proves what puts payloads.
+pub ruleset sections = (table_is, lists-put, debug-payload, producer-named, producer-unnamed, strings-payload, types-payload, constants-payload, globals-payload, functions-payload)

@@ -1,4 +1,5 @@
 -- Steps that copy words and runs one after the other are one step that copies them all. Assumes nothing.
+use Rattle.std.proofs.Math.Nat.{sub-zero}
 use Rattle.std.proofs.Common.{◌≡◌, ℕ, suc, Bool, true, false, refl, ap, ◌+◌, ◌%◌, ◌^◌, ◌<◌, ◌≤◌, List, [], ◌∷◌, ◌++◌, length, get_or, sym, ◌∙◌, subst, inl, inr, add-zero, mod-eq_of_lt, arith, length-append}
 use Rattle.sheet.specs.Store.{words_in}
 use Rattle.sheet.specs.Lies.{Lies}
@@ -209,3 +210,8 @@ list_copied e x y =
           copied-knowing
           (λ h. copied-then (x.each pool (length vs)) (y.each pool vs (sym (e ∙ lies-first (length vs) vs h))));
     }
+
+-- The laws by which the check proves what copies or passes over words.
+pub ruleset fields = (words_skipped, where_yes, where_no, number-copied, list_copied)
+
+pub ruleset numbers = (sub-zero, numbers-none, numbers_more)

@@ -136,3 +136,6 @@ pub write-only : (s pool out : List ℕ) {out' out'' : List ℕ} (x y : Result �
     image_size y ≡ in_room (length out) (imaged (with_pool pool (judged_bytes s))) → out'' ≡ with_image out (imaged (with_pool pool (judged_bytes s))) →
     (x ≡ y) × (out' ≡ out'')
 write-only s pool out x y e o f q = (size_same x y (e ∙ sym f), o ∙ sym q)
+
+-- The laws by which the check proves `image`.
+pub ruleset handed = (ok_some, err-none, image-stopped, image-passed)

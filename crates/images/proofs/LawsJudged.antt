@@ -145,3 +145,6 @@ written-fine {pool = pool} {out = out} {out' = out'} {size = size} x e g y =
           fine-as size out out' t (imaged (some t)) refl (sym (ap image_size e) ∙ x.each t h) g
           (λ b m. (y.each t h.holds (inl (subst (Lies pool 0) q (whole-lies pool))) (pool-fits t h.holds.sound) b).output (rw zero-add m));
     }
+
+-- The laws by which the check proves what measures and writes.
+pub ruleset writings = (over-pool, over-size, told-fine, told-limit, told-start, written-refused, written_small, written-fine)

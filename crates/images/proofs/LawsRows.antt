@@ -1,5 +1,6 @@
 -- Steps that copy the words of a row and its run put the row, and rows one after the other put a table's.
 -- Assumes nothing.
+use Rattle.std.proofs.Math.Nat.{sub-zero}
 use Rattle.std.proofs.Common.{◌≡◌, ℕ, suc, ◌+◌, ◌-◌, ◌%◌, ◌^◌, ◌<◌, ◌≤◌, List, [], ◌∷◌, ◌++◌, map, length, get_or, take, drop, sym, refl, ap, ◌∙◌, subst, append-nil, add-zero, mod-eq_of_lt, arith, length-drop, take-append-drop, length-take-le}
 use Rattle.exact.specs.Tiling.{join}
 use Rattle.enums.specs.declared.VersionClass.{VersionClass}
@@ -148,3 +149,6 @@ attribute-copied {pool = pool} {tag = tag} {n = n} a h e m x y z =
     let i : n ≡ get_or field_counts a.tag 0 = m ∙ ap (λ t. get_or field_counts t 0) (e ∙ lies-first _ _ l) in
     copied-then (byte-copied x pool a.tag t)
     (copied-as (ap (λ k. varints (take k (attribute_fields a))) i) (fields_copied n b y z pool (attribute_fields a) refl)))
+
+-- The laws by which the check proves what puts rows.
+pub ruleset rows = (sub-zero, run-taken, taken-behind, attribute-copied, counts-few, rows_none, rows_more, rows-put)

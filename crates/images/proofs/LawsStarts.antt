@@ -1,4 +1,6 @@
 -- Starts are told to fit one by one, and so are those of all tables. Assumes nothing.
+use Rattle.images.proofs.LawsTables.{ids-le}
+use Rattle.std.proofs.Math.Nat.{sub-zero}
 use Rattle.std.proofs.Common.{sym, ◌∙◌, true≢false, ◌≡◌, ℕ, suc, ◌^◌, ◌<◌, ◌≤◌, Bool, true, false, List, [], ◌∷◌, map, length, get_or, refl, ap, subst, arith}
 use Rattle.exact.specs.Tiling.{join, sums}
 use Rattle.enums.specs.declared.VersionClass.{VersionClass}
@@ -188,3 +190,6 @@ module _ {c : VersionClass} {s : List ℕ} where
               fails = λ e f. q.fails e (((f.strings, f.types), f.lists), f.attributes);
             };
       }
+
+-- The laws by which the check proves what asks of the starts of a table.
+pub ruleset told = (sub-zero, ids-le, told_none, told-large, told_more)

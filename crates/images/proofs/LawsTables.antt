@@ -1,4 +1,5 @@
 -- A count, padding, starts and rows, one after the other, are an offset table. Assumes nothing.
+use Rattle.std.proofs.Math.Nat.{sub-zero}
 use Rattle.std.proofs.Common.{refl, ◌≡◌, ℕ, suc, ◌+◌, ◌-◌, ◌*◌, ◌%◌, ◌^◌, ◌<◌, ◌≤◌, List, [], ◌∷◌, ◌++◌, map, length, get_or, replicate, sym, ap, ◌∙◌, subst, inr, append_assoc, mod-eq_of_lt, zero-add, arith, length-append}
 use lib.ListN.{length-map}
 use Rattle.exact.specs.Fixed.{bytes_of}
@@ -237,3 +238,8 @@ table-put {c} {t} x y z =
                 copied-then (copied-put (x.each i e)) (copied-then (copied-put (y.each xs start)) (z.each xs pl fw))));
           };
     }
+
+-- The laws by which the check proves what puts offset tables, and goes from entry to entry.
+pub ruleset tables = (count-put, table-put, entry_next, list-next)
+
+pub ruleset starts = (sub-zero, ids-le, starts_none, starts_more, starts-skipped, lists-end, lists-on, list-starts)

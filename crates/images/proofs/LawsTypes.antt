@@ -1,4 +1,5 @@
 -- Steps that copy the fields of each kind, one after the other, put a type's entry. Assumes nothing.
+use Rattle.format.proofs.LawsKinds.{kind-plain}
 use Rattle.std.proofs.lemmas.Bool.Decides.{nat_tests}
 use Rattle.std.proofs.Common.{◌≡◌, ℕ, ◌%◌, Bool, cond, nat_eq, ◌<◌, true, false, List, [], ◌∷◌, ◌++◌, length, get_or, sym, refl, ap, ◌∙◌, subst, ap₂, inl, inr, mod-eq_of_lt, arith}
 use mathlib.Core.Bool.{false≢true}
@@ -214,3 +215,6 @@ type-copied c r out' w e x y =
     record {
       each = λ pool row h. copied-then (skipped-one w _ pool _ (length (field_words row))) (row_copied c r out' e x y pool row h);
     }
+
+-- The laws by which the check proves what goes by the kind of a type.
+pub ruleset types = (type-copied, partition-old, partition-new, kind-plain)

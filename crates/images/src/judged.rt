@@ -15,6 +15,7 @@ const MOST_POOL: u64 = 0xC000_0000;
 
 // How long the image of a judged sheet is: 1 where it is over its limit, but 13 where a start does not fit. All starts
 // fit in an image within the limit.
+#[tactic(auto, using(crate::proofs::LawsJudged::writings))]
 pub fn image_length(sheet: &[u8], judged: Judged, pool: &[u8]) -> Result<usize, Refusal>
     ensures { ImageTold sheet.now judged result }
 {
@@ -38,6 +39,7 @@ pub fn image_length(sheet: &[u8], judged: Judged, pool: &[u8]) -> Result<usize, 
 }
 
 // Writes the image of a judged sheet and its pool: 11 where the output is smaller.
+#[tactic(auto, using(crate::proofs::LawsJudged::writings))]
 pub fn write_judged(
     sheet: &[u8],
     judged: Judged,

@@ -22,6 +22,7 @@ ghost use Rattle.images.specs.Written.{image_size, length_of, in_room, with_imag
 use enums::Refusal;
 
 // The length of the image of a handed sheet. Lent no pool, so that word 4 is compared with the row sum only.
+#[tactic(auto, using(crate::proofs::LawsHanded::handed))]
 pub fn image(sheet: &[u8]) -> Result<usize, Refusal>
     ensures { image_size result ≡ length_of (imaged (blank (judged_bytes sheet.now))) }
 {

@@ -10,6 +10,7 @@ ghost use Rattle.images.specs.Put.{Wrote, RunPut};
 use encoding::EncodingWriter;
 
 // Puts a byte.
+#[tactic(auto, using(crate::proofs::LawsPut::bytes))]
 pub fn put_byte(out: &mut [u8], at: usize, b: u8) -> usize
     ensures { Wrote (b ∷ []) at out.old out.new result }
 {
@@ -21,6 +22,7 @@ pub fn put_byte(out: &mut [u8], at: usize, b: u8) -> usize
 
 // Puts a varint, in its shortest spelling. Most values are below 128 and take one byte: they take no loop, whether the
 // output is filled or measured.
+#[tactic(auto, using(crate::proofs::LawsPut::bytes))]
 pub fn put_varint(out: &mut [u8], at: usize, value: u64) -> usize
     ensures { Wrote (spelling value) at out.old out.new result }
 {
@@ -37,6 +39,7 @@ pub fn put_varint(out: &mut [u8], at: usize, value: u64) -> usize
 }
 
 // Puts the lowest `width` bytes of a number, the lowest first.
+#[tactic(auto, using(crate::proofs::LawsPut::bytes))]
 pub fn put_le(out: &mut [u8], at: usize, value: u64, width: usize) -> usize
     ensures { Wrote (bytes_of width value) at out.old out.new result }
 {
@@ -50,6 +53,7 @@ pub fn put_le(out: &mut [u8], at: usize, value: u64, width: usize) -> usize
 }
 
 // Puts a 64-bit number, the lowest byte first. Where it has room it takes one store.
+#[tactic(auto, using(crate::proofs::LawsPut::runs))]
 pub fn put_u64(out: &mut [u8], at: usize, value: u64) -> usize
     ensures { Wrote (bytes_of 8 value) at out.old out.new result }
 {
@@ -62,6 +66,7 @@ pub fn put_u64(out: &mut [u8], at: usize, value: u64) -> usize
 }
 
 // How many bytes of padding take a place to a multiple of an alignment.
+#[tactic(auto, using(crate::proofs::LawsPut::paddings))]
 fn padding_to(alignment: usize, place: usize) -> usize
     ensures { result ≡ gap alignment place }
 {
@@ -72,6 +77,7 @@ fn padding_to(alignment: usize, place: usize) -> usize
 }
 
 // Puts the padding that takes a place, counted from the payload's or the file's start, to a multiple of an alignment.
+#[tactic(auto, using(crate::proofs::LawsPut::bytes))]
 pub fn put_padding(out: &mut [u8], at: usize, alignment: usize, place: usize) -> usize
     ensures { Wrote (replicate (gap alignment place) P) at out.old out.new result }
 {
@@ -83,6 +89,7 @@ pub fn put_padding(out: &mut [u8], at: usize, alignment: usize, place: usize) ->
 }
 
 // Puts a run of the pool. Where the pool does not have it, as in a call that measures and is lent none, it is counted.
+#[tactic(auto, using(crate::proofs::LawsPut::runs))]
 pub fn put_pool(pool: &[u8], from: usize, len: usize, out: &mut [u8], at: usize) -> usize
     ensures { RunPut pool.now «from» len at out.old out.new result }
 {

@@ -33,6 +33,7 @@ pub struct Table {
 }
 
 // Puts the next `len` bytes of the pool.
+#[tactic(auto, using(crate::proofs::LawsRows::rows))]
 fn take_run(pool: &[u8], len: u64, out: &mut [u8], pen: Pen) -> Pen
     ensures { RunTaken len pool.now pen out.old out.new result }
 {
@@ -45,6 +46,7 @@ fn take_run(pool: &[u8], len: u64, out: &mut [u8], pen: Pen) -> Pen
 }
 
 // A string or a constant: its length is the sheet's alone.
+#[tactic(auto, using(crate::proofs::LawsRows::rows), unfolding(crate::specs::Rows::GoodRow, crate::specs::Rows::row_words, crate::specs::Rows::row_run, crate::specs::Rows::row_bytes))]
 fn put_run(sheet: &[u8], pool: &[u8], out: &mut [u8], pen: Pen) -> Pen
     ensures { (c : VersionClass) → RowCopied c kinds.Run sheet.now pool.now pen out.old out.new result }
 {
@@ -75,6 +77,7 @@ fn put_function(sheet: &[u8], pool: &[u8], out: &mut [u8], pen: Pen) -> Pen
     take_run(pool, len, out, body)
 }
 
+#[tactic(auto, using(crate::proofs::LawsRows::rows), unfolding(crate::specs::Rows::GoodRow, crate::specs::Rows::row_words, crate::specs::Rows::row_run, crate::specs::Rows::row_bytes))]
 fn put_attribute(sheet: &[u8], out: &mut [u8], pen: Pen) -> Pen
     ensures { (c : VersionClass) (pool : List ℕ) → RowCopied c kinds.Attribute sheet.now pool pen out.old out.new result }
 {
@@ -107,6 +110,7 @@ pub fn put_row(source: &Source, row: Row, out: &mut [u8], pen: Pen) -> Pen
 }
 
 // The rows of a table. The pen's word stays: tables are found by the contents.
+#[tactic(auto, using(crate::proofs::LawsRows::rows))]
 pub fn put_rows(source: &Source, table: Table, out: &mut [u8], pen: Pen) -> Pen
     ensures { RowsPut source.now.class table (λ xs. join (map (row_bytes source.now.class table.row) xs)) source.now.sheet.now source.now.pool.now pen out.old out.new result }
 {

@@ -35,6 +35,7 @@ fn place_in(base: usize, at: usize) -> usize
 }
 
 // A count, and padding to an alignment.
+#[tactic(auto, using(crate::proofs::LawsTables::tables))]
 pub fn put_count(out: &mut [u8], base: usize, at: usize, count: u64, alignment: usize) -> usize
     ensures { CountPut count alignment base at out.old out.new result }
 {
@@ -43,6 +44,7 @@ pub fn put_count(out: &mut [u8], base: usize, at: usize, count: u64, alignment: 
 }
 
 // The entry behind this one.
+#[tactic(auto, using(crate::proofs::LawsTables::tables))]
 pub fn next_entry(source: &Source, row: Row, this: Entry<BytePosition>) -> Entry<BytePosition>
     ensures { NextEntry source.now.class row (row_bytes source.now.class row) source.now.sheet.now this.word this.start.0 result.word result.start.0 }
 {
@@ -60,6 +62,7 @@ pub fn next_entry(source: &Source, row: Row, this: Entry<BytePosition>) -> Entry
 }
 
 // The list behind this one, whose first word counts its ids.
+#[tactic(auto, using(crate::proofs::LawsTables::tables))]
 pub fn next_list(sheet: &[u8], this: Entry<IdPosition>) -> Entry<IdPosition>
     ensures { (c : VersionClass) → NextEntry c kinds.List ids sheet.now this.word this.start.0 result.word result.start.0 }
 {
@@ -71,6 +74,7 @@ pub fn next_list(sheet: &[u8], this: Entry<IdPosition>) -> Entry<IdPosition>
 }
 
 // The starts of a table's entries, the first of them 0. Into an output of no bytes they are only counted.
+#[tactic(auto, using(crate::proofs::LawsTables::starts))]
 pub fn put_starts(source: &Source, table: Table, out: &mut [u8], at: usize) -> usize
     ensures { StartsPut source.now.class table.row (row_bytes source.now.class table.row) table.width table.count source.now.sheet.now table.word 0 at out.old out.new result }
 {
@@ -90,6 +94,7 @@ pub fn put_starts(source: &Source, table: Table, out: &mut [u8], at: usize) -> u
 }
 
 // The starts of the debug lists, which count ids.
+#[tactic(auto, using(crate::proofs::LawsTables::starts))]
 pub fn put_list_starts(sheet: &[u8], table: Table, out: &mut [u8], at: usize) -> ListStarts
     ensures { ListStartsPut table.width table.count sheet.now table.word 0 at out.old out.new result.end.0 result.at }
 {
@@ -109,6 +114,7 @@ pub fn put_list_starts(sheet: &[u8], table: Table, out: &mut [u8], at: usize) ->
 }
 
 // An offset table in a payload that begins at `base`.
+#[tactic(auto, using(crate::proofs::LawsTables::tables))]
 pub fn put_table(source: &Source, table: Table, out: &mut [u8], base: usize, pen: Pen) -> Pen
     ensures { TablePut source.now.class table base source.now.sheet.now source.now.pool.now pen out.old out.new result }
 {

@@ -1,20 +1,9 @@
 -- `lists_fit` asks of the starts one by one: whatever is told of the rest is told of all. Assumes nothing.
 use Rattle.std.proofs.Common.{arith}
-use Rattle.std.proofs.Math.Nat.{sub-zero}
 use Rattle.images.proofs.LawsTables.{ids-le}
-use Rattle.images.proofs.LawsStarts.{told_none, told-large, told_more}
+use Rattle.images.proofs.LawsStarts.{told_more}
 use Rattle.images.proofs.starts.lists_fit.Goals as goal
-
-pub loop-init : goal.loop-init
-loop-init c v r x = rw sub-zero at x
-
-pub returns-then-this-gt-MOST_START : goal.returns-then-this-gt-MOST_START
-returns-then-this-gt-MOST_START c v =
-    c.loop.invariant v _ (told-large _ _ _ _ _ _ _ (omega arith) c.if-this-gt-MOST_START.true)
 
 pub loop-preserved : goal.loop-preserved
 loop-preserved c v r x =
     c.loop.invariant v r (told_more c.loop.this.start.0 (omega arith) (omega arith) (ids-le v) (c.next_list-this.ensures v) x)
-
-pub returns : goal.returns
-returns c v = c.loop.invariant v _ (told_none _ _ _ _ _ _ _ (omega arith))

@@ -1,12 +1,8 @@
 -- `put_list_starts` puts the starts one by one: whatever putting the rest leaves, putting them all leaves it.
 -- Assumes nothing.
 use Rattle.std.proofs.Common.{◌≡◌, ◌+◌, ◌-◌, suc, arith}
-use Rattle.std.proofs.Math.Nat.{sub-zero}
 use Rattle.images.proofs.LawsTables.{ids-le, starts_none, starts_more, lists-end, lists-on, list-starts}
 use Rattle.images.proofs.tables.put_list_starts.Goals as goal
-
-pub loop-init : goal.loop-init
-loop-init c = record { starts = λ v o r x. rw sub-zero at x; end = λ e x. rw sub-zero at x }
 
 pub loop-preserved : goal.loop-preserved
 loop-preserved c =
