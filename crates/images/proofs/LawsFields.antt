@@ -212,6 +212,4 @@ list_copied e x y =
     }
 
 -- The laws by which the check proves what copies or passes over words.
-pub ruleset fields = (words_skipped, where_yes, where_no, number-copied, list_copied)
-
-pub ruleset numbers = (sub-zero, numbers-none, numbers_more)
+pub ruleset fields = (words_skipped, where_yes, where_no, number-copied, list_copied, sub-zero, numbers-none, numbers_more)

@@ -333,6 +333,4 @@ image-put {s = s} {pool} {n0} {r} {p7 = p7} {out = out} {m0 = m0} {out' = out'} 
     }
 
 -- The laws by which the check proves what puts sections, and what tells whether one is written.
-pub ruleset containers = (header-put, image-put, section-put, section-none, alignment-none, alignment-some, payload-measured, payload-counted)
-
-pub ruleset present = (counted, string-there, producer-there, type-there, constant-there, global-there, function-there, lists-there, attributes-there)
+pub ruleset containers = (header-put, image-put, section-put, section-none, alignment-none, alignment-some, payload-measured, payload-counted, counted, string-there, producer-there, type-there, constant-there, global-there, function-there, lists-there, attributes-there)

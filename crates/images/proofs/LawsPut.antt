@@ -132,8 +132,4 @@ run-counted pool i len at next out f n = record { each = go }
     go run l (inr e) = wrote-run run len at next out out l (rw (e, put-none)) n
 
 -- The laws by which the check proves what puts bytes, runs and padding.
-pub ruleset bytes = (sub-zero, put_one, put_full, wrote-run, wrote_as, wrote-next, le-none, padding-none, bytes_of-next, replicate_next, spelling-last, spelling-more)
-
-pub ruleset runs = (wrote-run, run-put, run-counted, length-bytes_of)
-
-pub ruleset paddings = (gap-none, gap-some, mod-lt)
+pub ruleset puts = (sub-zero, put_one, put_full, wrote-run, wrote_as, wrote-next, le-none, padding-none, bytes_of-next, replicate_next, spelling-last, spelling-more, run-put, run-counted, length-bytes_of, gap-none, gap-some, mod-lt)

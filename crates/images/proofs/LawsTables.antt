@@ -240,6 +240,4 @@ table-put {c} {t} x y z =
     }
 
 -- The laws by which the check proves what puts offset tables, and goes from entry to entry.
-pub ruleset tables = (count-put, table-put, entry_next, list-next)
-
-pub ruleset starts = (sub-zero, ids-le, starts_none, starts_more, starts-skipped, lists-end, lists-on, list-starts)
+pub ruleset tables = (count-put, table-put, entry_next, list-next, sub-zero, ids-le, starts_none, starts_more, starts-skipped, lists-end, lists-on, list-starts)

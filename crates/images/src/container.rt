@@ -1,4 +1,6 @@
 // The image: the header, the sections that are written, and the end id.
+#![tactic(auto, using(crate::proofs::LawsImage::containers))]
+
 ghost use Rattle.std.specs.Prelude.{◌≡◌, [], slice_index};
 ghost use Rattle.enums.specs.Container.{magic};
 ghost use Rattle.sheet.specs.Store.{words_in};
@@ -14,7 +16,6 @@ use crate::tables::put_count;
 use enums::Section;
 
 // Whether a word of the sheet is not 0.
-#[tactic(auto, using(crate::proofs::LawsImage::present))]
 fn is_some(sheet: &[u8], word: usize) -> bool
     ensures { result ≡ is_some (slice_index (words_in sheet.now) word) }
 {
@@ -22,7 +23,6 @@ fn is_some(sheet: &[u8], word: usize) -> bool
 }
 
 // Whether a section is written: nonempty tables only; Debug if either of its tables has rows; Producer if named.
-#[tactic(auto, using(crate::proofs::LawsImage::present))]
 fn is_present(sheet: &[u8], section: Section) -> bool
     ensures { Presence section sheet.now result }
 {
@@ -61,7 +61,6 @@ fn first_byte(section: Section) -> u8
 }
 
 // The alignment, if there is one, and the padding, which counts from the file's start.
-#[tactic(auto, using(crate::proofs::LawsImage::containers))]
 fn put_alignment(out: &mut [u8], at: usize, alignment: Option<usize>) -> usize
     ensures { AlignmentPut alignment at out.old out.new result }
 {
@@ -72,7 +71,6 @@ fn put_alignment(out: &mut [u8], at: usize, alignment: Option<usize>) -> usize
 }
 
 // How far a payload takes the pen from place 0, without its bytes: its length, and where the pool goes on.
-#[tactic(auto, using(crate::proofs::LawsImage::containers))]
 fn measure_payload(source: &Source, section: Section, pen: Pen) -> Pen
     ensures { PayloadPut section source.now.class source.now.sheet.now source.now.pool.now (record { word = pen.word; run = pen.run; at = 0 }) [] [] result }
 {
@@ -81,7 +79,6 @@ fn measure_payload(source: &Source, section: Section, pen: Pen) -> Pen
 }
 
 // A payload that was measured. Into an output of no bytes it is not put once more.
-#[tactic(auto, using(crate::proofs::LawsImage::containers))]
 fn put_measured(source: &Source, section: Section, measured: Pen, out: &mut [u8], pen: Pen) -> Pen
     requires { PayloadPut section source.now.class source.now.sheet.now source.now.pool.now (record { word = pen.word; run = pen.run; at = 0 }) [] [] measured }
     ensures { PayloadPut section source.now.class source.now.sheet.now source.now.pool.now pen out.old out.new result }
@@ -96,7 +93,6 @@ fn put_measured(source: &Source, section: Section, measured: Pen, out: &mut [u8]
 }
 
 // A section, if it is written. Its payload is measured first, since its length stands before it.
-#[tactic(auto, using(crate::proofs::LawsImage::containers))]
 fn put_section(source: &Source, section: Section, out: &mut [u8], pen: Pen) -> Pen
     ensures { SectionPut section source.now.class source.now.sheet.now source.now.pool.now pen out.old out.new result }
 {
@@ -110,7 +106,6 @@ fn put_section(source: &Source, section: Section, out: &mut [u8], pen: Pen) -> P
     put_measured(source, section, measured, out, Pen { at: begin, ..pen })
 }
 
-#[tactic(auto, using(crate::proofs::LawsImage::containers))]
 fn put_magic(out: &mut [u8]) -> usize
     ensures { Wrote magic 0 out.old out.new result }
 {
@@ -119,7 +114,6 @@ fn put_magic(out: &mut [u8]) -> usize
 }
 
 // MAGIC, major, minor, tag.
-#[tactic(auto, using(crate::proofs::LawsImage::containers))]
 fn put_header(sheet: &[u8], out: &mut [u8]) -> usize
     ensures { HeaderPut sheet.now out.old out.new result }
 {
@@ -131,7 +125,6 @@ fn put_header(sheet: &[u8], out: &mut [u8]) -> usize
 
 // The image of a sheet that was judged, and of its pool; into an output of no bytes, only its length, for which the
 // pool may be left out.
-#[tactic(auto, using(crate::proofs::LawsImage::containers))]
 pub fn put_image(source: &Source, out: &mut [u8]) -> usize
     ensures { ImagePut source.now.class source.now.sheet.now source.now.pool.now out.old out.new result }
 {

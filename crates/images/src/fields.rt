@@ -1,5 +1,7 @@
 // Words of the sheet copied into the output as numbers, one after the other. Each step takes the pen that the step
 // before it handed back.
+#![tactic(auto, using(crate::proofs::LawsFields::fields), unfolding(crate::specs::Fields::bytes_as))]
+
 ghost use Rattle.std.specs.Prelude.{◌≡◌};
 ghost use Rattle.images.specs.Put.{Wrote};
 ghost use Rattle.images.specs.Fields.{bytes_as, NumberCopied, NumberCopiedWhere, NumbersCopied, WordsSkipped, ListCopied};
@@ -23,7 +25,6 @@ pub enum Number {
     I64,
 }
 
-#[tactic(auto, using(crate::proofs::LawsPut::runs), unfolding(crate::specs::Fields::bytes_as))]
 pub fn put_number(out: &mut [u8], at: usize, number: Number, v: u64) -> usize
     ensures { Wrote (bytes_as number v) at out.old out.new result }
 {
@@ -36,7 +37,6 @@ pub fn put_number(out: &mut [u8], at: usize, number: Number, v: u64) -> usize
 }
 
 // Copies the next word.
-#[tactic(auto, using(crate::proofs::LawsFields::fields))]
 #[inline]
 pub fn copy_number(sheet: &[u8], number: Number, out: &mut [u8], pen: Pen) -> Pen
     ensures { NumberCopied number sheet.now pen out.old out.new result }
@@ -50,7 +50,6 @@ pub fn copy_number(sheet: &[u8], number: Number, out: &mut [u8], pen: Pen) -> Pe
 }
 
 // Passes over the next `count` words, which are the sheet's alone.
-#[tactic(auto, using(crate::proofs::LawsFields::fields))]
 pub fn skip_words(pen: Pen, count: usize) -> Pen
     ensures { WordsSkipped count pen result }
 {
@@ -61,7 +60,6 @@ pub fn skip_words(pen: Pen, count: usize) -> Pen
 }
 
 // Copies the next word where a test holds, and passes over it elsewhere.
-#[tactic(auto, using(crate::proofs::LawsFields::fields))]
 pub fn copy_where(sheet: &[u8], test: bool, number: Number, out: &mut [u8], pen: Pen) -> Pen
     ensures { NumberCopiedWhere test number sheet.now pen out.old out.new result }
 {
@@ -73,7 +71,6 @@ pub fn copy_where(sheet: &[u8], test: bool, number: Number, out: &mut [u8], pen:
 }
 
 // Copies the next `count` words.
-#[tactic(auto, using(crate::proofs::LawsFields::numbers))]
 #[inline]
 pub fn copy_numbers(sheet: &[u8], number: Number, count: u64, out: &mut [u8], pen: Pen) -> Pen
     ensures { NumbersCopied number count sheet.now pen out.old out.new result }
@@ -86,7 +83,6 @@ pub fn copy_numbers(sheet: &[u8], number: Number, count: u64, out: &mut [u8], pe
 }
 
 // Copies a count, as a varint, and as many words.
-#[tactic(auto, using(crate::proofs::LawsFields::fields))]
 #[inline]
 pub fn copy_list(sheet: &[u8], number: Number, out: &mut [u8], pen: Pen) -> Pen
     ensures { ListCopied number sheet.now pen out.old out.new result }

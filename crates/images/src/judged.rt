@@ -1,4 +1,6 @@
 // Writing a judged sheet: every refusal but the judge's is found, and the image is put only if it has room.
+#![tactic(auto, using(crate::proofs::LawsJudged::writings))]
+
 ghost use Rattle.images.specs.Written.{ImageTold, JudgedWritten};
 
 use crate::container::put_image;
@@ -15,7 +17,6 @@ const MOST_POOL: u64 = 0xC000_0000;
 
 // How long the image of a judged sheet is: 1 where it is over its limit, but 13 where a start does not fit. All starts
 // fit in an image within the limit.
-#[tactic(auto, using(crate::proofs::LawsJudged::writings))]
 pub fn image_length(sheet: &[u8], judged: Judged, pool: &[u8]) -> Result<usize, Refusal>
     ensures { ImageTold sheet.now judged result }
 {
@@ -39,7 +40,6 @@ pub fn image_length(sheet: &[u8], judged: Judged, pool: &[u8]) -> Result<usize, 
 }
 
 // Writes the image of a judged sheet and its pool: 11 where the output is smaller.
-#[tactic(auto, using(crate::proofs::LawsJudged::writings))]
 pub fn write_judged(
     sheet: &[u8],
     judged: Judged,

@@ -1,5 +1,7 @@
 // Bytes put into a lent output, each run where it has room; the next place is answered in any case, so that what fills
 // an output also measures on an empty one. Places are counted modulo 2^64, which no image comes near.
+#![tactic(auto, using(crate::proofs::LawsPut::puts))]
+
 ghost use Rattle.std.specs.Prelude.{◌≡◌, [], ◌∷◌, replicate};
 ghost use Rattle.exact.specs.Fixed.{bytes_of};
 ghost use Rattle.exact.specs.Padding.{gap};
@@ -10,7 +12,6 @@ ghost use Rattle.images.specs.Put.{Wrote, RunPut};
 use encoding::EncodingWriter;
 
 // Puts a byte.
-#[tactic(auto, using(crate::proofs::LawsPut::bytes))]
 pub fn put_byte(out: &mut [u8], at: usize, b: u8) -> usize
     ensures { Wrote (b ∷ []) at out.old out.new result }
 {
@@ -22,7 +23,6 @@ pub fn put_byte(out: &mut [u8], at: usize, b: u8) -> usize
 
 // Puts a varint, in its shortest spelling. Most values are below 128 and take one byte: they take no loop, whether the
 // output is filled or measured.
-#[tactic(auto, using(crate::proofs::LawsPut::bytes))]
 pub fn put_varint(out: &mut [u8], at: usize, value: u64) -> usize
     ensures { Wrote (spelling value) at out.old out.new result }
 {
@@ -33,13 +33,12 @@ pub fn put_varint(out: &mut [u8], at: usize, value: u64) -> usize
     let mut next = at;
     while 128 <= rest {
         next = put_byte(out, next, (128 + rest % 128) as u8);
-        rest = rest / 128;
+        rest /= 128;
     }
     put_byte(out, next, rest as u8)
 }
 
 // Puts the lowest `width` bytes of a number, the lowest first.
-#[tactic(auto, using(crate::proofs::LawsPut::bytes))]
 pub fn put_le(out: &mut [u8], at: usize, value: u64, width: usize) -> usize
     ensures { Wrote (bytes_of width value) at out.old out.new result }
 {
@@ -47,13 +46,12 @@ pub fn put_le(out: &mut [u8], at: usize, value: u64, width: usize) -> usize
     let mut next = at;
     for _ in 0..width {
         next = put_byte(out, next, (rest % 256) as u8);
-        rest = rest / 256;
+        rest /= 256;
     }
     next
 }
 
 // Puts a 64-bit number, the lowest byte first. Where it has room it takes one store.
-#[tactic(auto, using(crate::proofs::LawsPut::runs))]
 pub fn put_u64(out: &mut [u8], at: usize, value: u64) -> usize
     ensures { Wrote (bytes_of 8 value) at out.old out.new result }
 {
@@ -66,7 +64,6 @@ pub fn put_u64(out: &mut [u8], at: usize, value: u64) -> usize
 }
 
 // How many bytes of padding take a place to a multiple of an alignment.
-#[tactic(auto, using(crate::proofs::LawsPut::paddings))]
 fn padding_to(alignment: usize, place: usize) -> usize
     ensures { result ≡ gap alignment place }
 {
@@ -77,7 +74,6 @@ fn padding_to(alignment: usize, place: usize) -> usize
 }
 
 // Puts the padding that takes a place, counted from the payload's or the file's start, to a multiple of an alignment.
-#[tactic(auto, using(crate::proofs::LawsPut::bytes))]
 pub fn put_padding(out: &mut [u8], at: usize, alignment: usize, place: usize) -> usize
     ensures { Wrote (replicate (gap alignment place) P) at out.old out.new result }
 {
@@ -89,7 +85,6 @@ pub fn put_padding(out: &mut [u8], at: usize, alignment: usize, place: usize) ->
 }
 
 // Puts a run of the pool. Where the pool does not have it, as in a call that measures and is lent none, it is counted.
-#[tactic(auto, using(crate::proofs::LawsPut::runs))]
 pub fn put_pool(pool: &[u8], from: usize, len: usize, out: &mut [u8], at: usize) -> usize
     ensures { RunPut pool.now «from» len at out.old out.new result }
 {

@@ -1,4 +1,6 @@
 // The rows of the tables: each becomes its bytes of the file, and the rows of a table stand one behind the other.
+#![tactic(auto, using(crate::proofs::LawsRows::rows), unfolding(crate::specs::Rows::GoodRow, crate::specs::Rows::row_words, crate::specs::Rows::row_run, crate::specs::Rows::row_bytes))]
+
 ghost use Rattle.std.specs.Prelude.{ℕ, List, map};
 ghost use Rattle.exact.specs.Tiling.{join};
 ghost use Rattle.enums.specs.declared.VersionClass.{VersionClass};
@@ -33,7 +35,6 @@ pub struct Table {
 }
 
 // Puts the next `len` bytes of the pool.
-#[tactic(auto, using(crate::proofs::LawsRows::rows))]
 fn take_run(pool: &[u8], len: u64, out: &mut [u8], pen: Pen) -> Pen
     ensures { RunTaken len pool.now pen out.old out.new result }
 {
@@ -46,7 +47,6 @@ fn take_run(pool: &[u8], len: u64, out: &mut [u8], pen: Pen) -> Pen
 }
 
 // A string or a constant: its length is the sheet's alone.
-#[tactic(auto, using(crate::proofs::LawsRows::rows), unfolding(crate::specs::Rows::GoodRow, crate::specs::Rows::row_words, crate::specs::Rows::row_run, crate::specs::Rows::row_bytes))]
 fn put_run(sheet: &[u8], pool: &[u8], out: &mut [u8], pen: Pen) -> Pen
     ensures { (c : VersionClass) → RowCopied c kinds.Run sheet.now pool.now pen out.old out.new result }
 {
@@ -77,7 +77,6 @@ fn put_function(sheet: &[u8], pool: &[u8], out: &mut [u8], pen: Pen) -> Pen
     take_run(pool, len, out, body)
 }
 
-#[tactic(auto, using(crate::proofs::LawsRows::rows), unfolding(crate::specs::Rows::GoodRow, crate::specs::Rows::row_words, crate::specs::Rows::row_run, crate::specs::Rows::row_bytes))]
 fn put_attribute(sheet: &[u8], out: &mut [u8], pen: Pen) -> Pen
     ensures { (c : VersionClass) (pool : List ℕ) → RowCopied c kinds.Attribute sheet.now pool pen out.old out.new result }
 {
@@ -110,7 +109,6 @@ pub fn put_row(source: &Source, row: Row, out: &mut [u8], pen: Pen) -> Pen
 }
 
 // The rows of a table. The pen's word stays: tables are found by the contents.
-#[tactic(auto, using(crate::proofs::LawsRows::rows))]
 pub fn put_rows(source: &Source, table: Table, out: &mut [u8], pen: Pen) -> Pen
     ensures { RowsPut source.now.class table (λ xs. join (map (row_bytes source.now.class table.row) xs)) source.now.sheet.now source.now.pool.now pen out.old out.new result }
 {

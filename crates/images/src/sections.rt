@@ -1,4 +1,6 @@
 // The payloads of the sections.
+#![tactic(auto, using(crate::proofs::LawsDebug::sections))]
+
 ghost use Rattle.std.specs.Prelude.{◌≡◌, ℕ, ◌+◌, ◌%◌, ◌^◌, List, ◌++◌, map, slice_index};
 ghost use Rattle.exact.specs.Tiling.{join};
 ghost use Rattle.enums.specs.declared.VersionClass.{VersionClass};
@@ -16,7 +18,6 @@ use crate::tables::{put_count, put_list_starts, put_table};
 use enums::Section;
 
 // The table whose start and count are the words `contents` and the next.
-#[tactic(auto, using(crate::proofs::LawsDebug::sections))]
 pub fn table_at(sheet: &[u8], contents: usize, row: Row, width: usize) -> Table
     ensures { result ≡ record { row = row; word = slice_index (words_in sheet.now) contents; count = slice_index (words_in sheet.now) ((contents + 1) % 2 ^ 64); width = width } }
 {
@@ -37,7 +38,6 @@ fn put_counted(source: &Source, table: Table, out: &mut [u8], pen: Pen) -> Pen
 }
 
 // The producer's index, which is one less than its word.
-#[tactic(auto, using(crate::proofs::LawsDebug::sections))]
 fn put_producer(sheet: &[u8], out: &mut [u8], pen: Pen) -> Pen
     ensures { (c : VersionClass) (pool : List ℕ) → PayloadPut parts.Producer c sheet.now pool pen out.old out.new result }
 {
@@ -51,7 +51,6 @@ fn put_producer(sheet: &[u8], out: &mut [u8], pen: Pen) -> Pen
 }
 
 // The debug lists: their starts, counted in ids, and behind them the ids of all lists.
-#[tactic(auto, using(crate::proofs::LawsDebug::sections))]
 fn put_lists(source: &Source, out: &mut [u8], pen: Pen) -> Pen
     ensures { ListsPut source.now.class source.now.sheet.now source.now.pool.now pen out.old out.new result }
 {
@@ -62,7 +61,6 @@ fn put_lists(source: &Source, out: &mut [u8], pen: Pen) -> Pen
     put_rows(source, lists, out, Pen { at: numbers, ..pen })
 }
 
-#[tactic(auto, using(crate::proofs::LawsDebug::sections))]
 fn put_debug(source: &Source, out: &mut [u8], pen: Pen) -> Pen
     ensures { PayloadPut parts.Debug source.now.class source.now.sheet.now source.now.pool.now pen out.old out.new result }
 {
@@ -72,7 +70,6 @@ fn put_debug(source: &Source, out: &mut [u8], pen: Pen) -> Pen
 }
 
 // The payload of a section.
-#[tactic(auto, using(crate::proofs::LawsDebug::sections))]
 pub fn put_payload(source: &Source, section: Section, out: &mut [u8], pen: Pen) -> Pen
     ensures { PayloadPut section source.now.class source.now.sheet.now source.now.pool.now pen out.old out.new result }
 {

@@ -1,4 +1,6 @@
 // Whether the u32 starts fit, which tells 13 from 1 where the image is over its limit.
+#![tactic(auto, using(crate::proofs::LawsStarts::told))]
+
 ghost use Rattle.enums.specs.declared.VersionClass.{VersionClass};
 ghost use Rattle.images.specs.declared.rows.Row.TheVariants as kinds;
 ghost use Rattle.images.specs.Rows.{row_bytes};
@@ -15,7 +17,6 @@ use enums::{BytePosition, IdPosition};
 const MOST_START: usize = u32::MAX as usize;
 
 // Whether the starts of a table's entries fit.
-#[tactic(auto, using(crate::proofs::LawsStarts::told))]
 fn entries_fit(source: &Source, table: Table) -> bool
     ensures { StartsTold source.now.class table.row (row_bytes source.now.class table.row) table.count source.now.sheet.now table.word 0 result }
 {
@@ -33,7 +34,6 @@ fn entries_fit(source: &Source, table: Table) -> bool
 }
 
 // Whether the starts of the debug lists fit.
-#[tactic(auto, using(crate::proofs::LawsStarts::told))]
 fn lists_fit(sheet: &[u8], table: Table) -> bool
     ensures { (c : VersionClass) → StartsTold c kinds.List ids table.count sheet.now table.word 0 result }
 {

@@ -1,5 +1,7 @@
 // Offset tables: a count, padding, the starts, and the data. Starts that count bytes and starts that count ids are two
 // units. An entry's length, which the next start needs, is got by putting the entry into an output of no bytes.
+#![tactic(auto, using(crate::proofs::LawsTables::tables))]
+
 ghost use Rattle.std.specs.Prelude.{◌≡◌, ◌+◌, ◌-◌, ◌*◌, ◌%◌, ◌^◌};
 ghost use Rattle.enums.specs.declared.VersionClass.{VersionClass};
 ghost use Rattle.images.specs.declared.rows.Row.TheVariants as kinds;
@@ -35,7 +37,6 @@ fn place_in(base: usize, at: usize) -> usize
 }
 
 // A count, and padding to an alignment.
-#[tactic(auto, using(crate::proofs::LawsTables::tables))]
 pub fn put_count(out: &mut [u8], base: usize, at: usize, count: u64, alignment: usize) -> usize
     ensures { CountPut count alignment base at out.old out.new result }
 {
@@ -44,7 +45,6 @@ pub fn put_count(out: &mut [u8], base: usize, at: usize, count: u64, alignment: 
 }
 
 // The entry behind this one.
-#[tactic(auto, using(crate::proofs::LawsTables::tables))]
 pub fn next_entry(source: &Source, row: Row, this: Entry<BytePosition>) -> Entry<BytePosition>
     ensures { NextEntry source.now.class row (row_bytes source.now.class row) source.now.sheet.now this.word this.start.0 result.word result.start.0 }
 {
@@ -62,7 +62,6 @@ pub fn next_entry(source: &Source, row: Row, this: Entry<BytePosition>) -> Entry
 }
 
 // The list behind this one, whose first word counts its ids.
-#[tactic(auto, using(crate::proofs::LawsTables::tables))]
 pub fn next_list(sheet: &[u8], this: Entry<IdPosition>) -> Entry<IdPosition>
     ensures { (c : VersionClass) → NextEntry c kinds.List ids sheet.now this.word this.start.0 result.word result.start.0 }
 {
@@ -74,7 +73,6 @@ pub fn next_list(sheet: &[u8], this: Entry<IdPosition>) -> Entry<IdPosition>
 }
 
 // The starts of a table's entries, the first of them 0. Into an output of no bytes they are only counted.
-#[tactic(auto, using(crate::proofs::LawsTables::starts))]
 pub fn put_starts(source: &Source, table: Table, out: &mut [u8], at: usize) -> usize
     ensures { StartsPut source.now.class table.row (row_bytes source.now.class table.row) table.width table.count source.now.sheet.now table.word 0 at out.old out.new result }
 {
@@ -94,7 +92,6 @@ pub fn put_starts(source: &Source, table: Table, out: &mut [u8], at: usize) -> u
 }
 
 // The starts of the debug lists, which count ids.
-#[tactic(auto, using(crate::proofs::LawsTables::starts))]
 pub fn put_list_starts(sheet: &[u8], table: Table, out: &mut [u8], at: usize) -> ListStarts
     ensures { ListStartsPut table.width table.count sheet.now table.word 0 at out.old out.new result.end.0 result.at }
 {
@@ -114,7 +111,6 @@ pub fn put_list_starts(sheet: &[u8], table: Table, out: &mut [u8], at: usize) ->
 }
 
 // An offset table in a payload that begins at `base`.
-#[tactic(auto, using(crate::proofs::LawsTables::tables))]
 pub fn put_table(source: &Source, table: Table, out: &mut [u8], base: usize, pen: Pen) -> Pen
     ensures { TablePut source.now.class table base source.now.sheet.now source.now.pool.now pen out.old out.new result }
 {

@@ -1,5 +1,7 @@
 // Type entries: a row of the sheet becomes a varint tag and the fields behind it, by kind and version class. The sheet
 // was judged, so a tag that no arm names is a scalar's or Token's, and has no fields.
+#![tactic(auto, using(crate::proofs::LawsTypes::types), unfolding(crate::specs::Types::FieldsCopied, format::specs::Kinds::kind_of))]
+
 ghost use Rattle.std.specs.Prelude.{◌≡◌, ◌%◌};
 ghost use Rattle.encoding.specs.Out.{Tells};
 ghost use Rattle.format.specs.Kinds.{kind_of};
@@ -73,7 +75,6 @@ fn old_partition_view(sheet: &[u8], out: &mut [u8], pen: Pen) -> Pen
     )
 }
 
-#[tactic(auto, using(crate::proofs::LawsTypes::types))]
 fn partition_view(sheet: &[u8], class: VersionClass, out: &mut [u8], pen: Pen) -> Pen
     ensures { PartitionViewCopied «class» sheet.now pen out.old out.new result }
 {
@@ -115,7 +116,6 @@ fn function(sheet: &[u8], out: &mut [u8], pen: Pen) -> Pen
 }
 
 // What stands behind the tag, by kind.
-#[tactic(auto, using(crate::proofs::LawsTypes::types), unfolding(crate::specs::Types::FieldsCopied, format::specs::Kinds::kind_of))]
 fn put_fields(sheet: &[u8], class: VersionClass, tag: u64, out: &mut [u8], pen: Pen) -> Pen
     ensures { FieldsCopied «class» (kind_of tag) sheet.now pen out.old out.new result }
 {
@@ -132,7 +132,6 @@ fn put_fields(sheet: &[u8], class: VersionClass, tag: u64, out: &mut [u8], pen: 
 }
 
 // A type entry. The number of words that follow is the sheet's alone.
-#[tactic(auto, using(crate::proofs::LawsTypes::types))]
 pub fn put_type(sheet: &[u8], class: VersionClass, out: &mut [u8], pen: Pen) -> Pen
     ensures { TypeCopied «class» sheet.now pen out.old out.new result }
 {
