@@ -74,8 +74,7 @@ fn put_alignment(out: &mut [u8], at: usize, alignment: Option<usize>) -> usize
 fn measure_payload(source: &Source, section: Section, pen: Pen) -> Pen
     ensures { PayloadPut section source.now.class source.now.sheet.now source.now.pool.now (record { word = pen.word; run = pen.run; at = 0 }) [] [] result }
 {
-    let mut nowhere: [u8; 0] = [];
-    put_payload(source, section, &mut nowhere, Pen { at: 0, ..pen })
+    put_payload(source, section, &mut [], Pen { at: 0, ..pen })
 }
 
 // A payload that was measured. Into an output of no bytes it is not put once more.

@@ -36,7 +36,8 @@ pub fn put_number(out: &mut [u8], at: usize, number: Number, v: u64) -> usize
     }
 }
 
-// Copies the next word.
+// Copies the next word. This and the copies of more words are to be inlined: a caller writes down how its number stands
+// in the file, and then no copy asks for it.
 #[inline]
 pub fn copy_number(sheet: &[u8], number: Number, out: &mut [u8], pen: Pen) -> Pen
     ensures { NumberCopied number sheet.now pen out.old out.new result }

@@ -26,8 +26,7 @@ pub fn image_length(sheet: &[u8], judged: Judged, pool: &[u8]) -> Result<usize, 
         class: judged.class,
     };
     if judged.pool <= MOST_POOL {
-        let mut nowhere: [u8; 0] = [];
-        let size = put_image(&source, &mut nowhere);
+        let size = put_image(&source, &mut []);
         if size <= MOST_BYTES {
             return Ok(size);
         }

@@ -27,8 +27,7 @@ pub fn image(sheet: &[u8]) -> Result<usize, Refusal>
     ensures { image_size result ≡ length_of (imaged (blank (judged_bytes sheet.now))) }
 {
     let judged = judge::judge(sheet).ok_or(Refusal::Sheet)?;
-    let pool: [u8; 0] = [];
-    judged::image_length(sheet, judged, &pool)
+    judged::image_length(sheet, judged, &[])
 }
 
 // The image of a handed sheet and its pool. A refused call has written nothing: all is judged and measured before.

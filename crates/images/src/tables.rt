@@ -53,8 +53,7 @@ pub fn next_entry(source: &Source, row: Row, this: Entry<BytePosition>) -> Entry
         run: 0,
         at: 0,
     };
-    let mut nowhere: [u8; 0] = [];
-    let end = put_row(source, row, &mut nowhere, begin);
+    let end = put_row(source, row, &mut [], begin);
     Entry {
         word: end.word,
         start: BytePosition(this.start.0.wrapping_add(end.at)),
