@@ -1,4 +1,5 @@
 -- The lists' starts and ids, and the attributes behind them, are the payload of Debug. Assumes nothing.
+use Rattle.images.proofs.LawsSections.{table_is, producer-named, producer-unnamed, strings-payload, types-payload, constants-payload, globals-payload, functions-payload}
 use Rattle.std.proofs.Common.{◌≡◌, ℕ, ◌+◌, List, [], ◌∷◌, ◌++◌, map, length, get_or, sym, refl, ap, ◌∙◌, subst, ap₂, append_assoc, add-zero, zero-add, arith, length-append}
 use Rattle.exact.specs.Fixed.{bytes_of}
 use Rattle.exact.specs.Tiling.{join, sums}
@@ -16,7 +17,7 @@ use Rattle.images.specs.Sections.{Holds, lists_bytes, ListsPut, part_in, runs_in
 use Rattle.images.specs.declared.fields.Pen.{Pen}
 use Rattle.images.specs.declared.rows.Row.TheVariants as row
 use Rattle.images.specs.declared.rows.Table.{Table}
-use Rattle.images.specs.declared.sections.Section.TheVariants as section
+use Rattle.enums.specs.declared.Section.TheVariants as section
 use Rattle.images.proofs.LawsPut.{wrote_as}
 use Rattle.images.proofs.LawsFields.{ready-front, copied-then, copied-put, copied-ready, copied-as, copied_runs}
 use Rattle.images.proofs.LawsTables.{padded-as}
@@ -125,3 +126,6 @@ debug-payload {c} {s} {pool} {p} {z} {q} {out} {mid} {out'} x e y =
           (((subst (λ k. TablePut c k p.at s pool z mid out' q) e y).each (length (starts ++ ids)) g).each t.attributes
           (placed-in h 15 16 (attributes-placed t h.sound)) (fit-in h)))));
     }
+
+-- The laws by which the check proves what puts payloads.
+pub ruleset sections = (table_is, lists-put, debug-payload, producer-named, producer-unnamed, strings-payload, types-payload, constants-payload, globals-payload, functions-payload)

@@ -1,9 +1,10 @@
 -- Steps that copy words and runs one after the other are one step that copies them all. Assumes nothing.
-use Rattle.std.proofs.Common.{◌≡◌, ℕ, ◌+◌, ◌-◌, ◌%◌, ◌^◌, ◌<◌, ◌≤◌, List, [], ◌∷◌, ◌++◌, length, get_or, sym, ◌∙◌, subst, inl, inr, add-zero, mod-eq_of_lt, arith, length-append}
+use Rattle.std.proofs.Math.Nat.{sub-zero}
+use Rattle.std.proofs.Common.{◌≡◌, ℕ, suc, Bool, true, false, refl, ap, ◌+◌, ◌%◌, ◌^◌, ◌<◌, ◌≤◌, List, [], ◌∷◌, ◌++◌, length, get_or, sym, ◌∙◌, subst, inl, inr, add-zero, mod-eq_of_lt, arith, length-append}
 use Rattle.sheet.specs.Store.{words_in}
 use Rattle.sheet.specs.Lies.{Lies}
 use Rattle.images.specs.Put.{Puts, Wrote, Lent}
-use Rattle.images.specs.Fields.{bytes_as, many_as, Ready, Moved, Copied, NumberCopied, NumbersCopied, ListCopied}
+use Rattle.images.specs.Fields.{bytes_as, many_as, Ready, Moved, Copied, NumberCopied, NumberCopiedWhere, NumbersCopied, WordsSkipped, ListCopied}
 use Rattle.images.specs.declared.fields.Number.{Number}
 use Rattle.images.specs.declared.fields.Number.TheVariants.{Varint}
 use Rattle.images.specs.declared.fields.Pen.{Pen}
@@ -147,6 +148,35 @@ number-copied k s p out out' v w next e x m =
           };
     }
 
+-- Words that are passed over.
+pub words_skipped : {n w : ℕ} (p : Pen) → w ≡ (p.word + n) % 2 ^ 64 → WordsSkipped n p (record { word = w; run = p.run; at = p.at })
+words_skipped p e =
+    record {
+      each =
+          λ s pool vs out l.
+          record {
+            moved =
+                λ h.
+                let f = h.words_fit in
+                record {
+                  word = e ∙ mod-eq_of_lt (omega arith) ∙ ap (λ m. p.word + m) (sym l);
+                  run_end = sym (add-zero p.run);
+                  puts = (wrote-nil p.at out).puts h.bytes_fit;
+                };
+          };
+    }
+
+pub skipped-one : {p q : Pen} → WordsSkipped 1 p q → (s pool out : List ℕ) (v : ℕ) → Copied (v ∷ []) [] [] s pool p out out q
+skipped-one x s pool out v = x.each s pool (v ∷ []) out refl
+
+-- A word that is copied where a test holds.
+module _ {k : Number} {s : List ℕ} {p q : Pen} {out out' : List ℕ} {b : Bool} where
+  pub where_yes : b ≡ true → NumberCopied k s p out out' q → NumberCopiedWhere b k s p out out' q
+  where_yes e x = record { each = λ pool v. rw e (x.each pool v) }
+
+  pub where_no : b ≡ false → WordsSkipped 1 p q → out' ≡ out → NumberCopiedWhere b k s p out out' q
+  where_no e x o = record { each = λ pool v. rw (e, o) (skipped-one x s pool out v) }
+
 -- No words, or one and then the others.
 none_each : (k : Number) (s pool : List ℕ) (p : Pen) (out vs : List ℕ) → length vs ≡ 0 → Copied vs [] (many_as k vs) s pool p out out p
 unfolding many_as
@@ -156,17 +186,17 @@ none_each k s pool p out (v ∷ vs) e = absurd (omega arith)
 pub numbers-none : (k : Number) (n : ℕ) (s : List ℕ) (p : Pen) (out : List ℕ) → n ≤ 0 → NumbersCopied k n s p out out p
 numbers-none k n s p out z = record { each = λ pool vs e. let l : length vs ≡ 0 = omega arith in none_each k s pool p out vs l }
 
-more-each : {k : Number} {s : List ℕ} {p q r : Pen} {out mid out' : List ℕ} (n : ℕ) → 0 < n → NumberCopied k s p out mid q →
-    NumbersCopied k (n - 1) s q mid out' r → (pool vs : List ℕ) → length vs ≡ n → Copied vs [] (many_as k vs) s pool p out out' r
+more-each : {k : Number} {s : List ℕ} {p q r : Pen} {out mid out' : List ℕ} {n m : ℕ} → n ≡ suc m → NumberCopied k s p out mid q →
+    NumbersCopied k m s q mid out' r → (pool vs : List ℕ) → length vs ≡ n → Copied vs [] (many_as k vs) s pool p out out' r
 unfolding many_as
-more-each n z x y pool [] e = absurd (omega arith)
-more-each n z x y pool (v ∷ vs) e =
-    let l : length vs ≡ n - 1 = omega arith in
-    copied-then (x.each pool v) (y.each pool vs l)
+more-each e x y pool [] l = absurd (omega arith)
+more-each {m = m} e x y pool (v ∷ vs) l =
+    let i : length vs ≡ m = omega arith in
+    copied-then (x.each pool v) (y.each pool vs i)
 
-pub numbers_more : {k : Number} {s : List ℕ} {p q r : Pen} {out mid out' : List ℕ} (n : ℕ) → 0 < n →
-    NumberCopied k s p out mid q → NumbersCopied k (n - 1) s q mid out' r → NumbersCopied k n s p out out' r
-numbers_more n z x y = record { each = more-each n z x y }
+pub numbers_more : {k : Number} {s : List ℕ} {p q r : Pen} {out mid out' : List ℕ} {n m : ℕ} → n ≡ suc m →
+    NumberCopied k s p out mid q → NumbersCopied k m s q mid out' r → NumbersCopied k n s p out out' r
+numbers_more e x y = record { each = more-each e x y }
 
 -- A count, and as many words.
 pub list_copied : {k : Number} {s : List ℕ} {p q r : Pen} {out mid out' : List ℕ} {n : ℕ} →
@@ -180,3 +210,6 @@ list_copied e x y =
           copied-knowing
           (λ h. copied-then (x.each pool (length vs)) (y.each pool vs (sym (e ∙ lies-first (length vs) vs h))));
     }
+
+-- The laws by which the check proves what copies or passes over words.
+pub ruleset fields = (words_skipped, where_yes, where_no, number-copied, list_copied, sub-zero, numbers-none, numbers_more)

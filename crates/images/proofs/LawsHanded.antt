@@ -1,10 +1,12 @@
 -- What is answered of a handed sheet, by what the judge says of it. Assumes nothing.
-use Rattle.std.proofs.Common.{◌≡◌, ℕ, ◌^◌, ◌<◌, List, length, replicate, sym, ap, ◌∙◌, arith}
+use Rattle.std.proofs.Common.{Result, Ok, Err, ◌≡◌, ℕ, ◌^◌, ◌<◌, List, length, replicate, sym, refl, ap, ◌∙◌, arith}
+use Rattle.std.specs.Prelude as code
 use native.Mathlib.Decide.{ℕ_discrete}
 use mathlib.Core.Option.{none, some}
 use lib.ListN.{length-replicate}
 use Rattle.exact.proofs.LawsChoice.{choose_yes, choose_no}
-use Rattle.enums.specs.Refusals as refusals
+use Rattle.enums.specs.Numbered.{number_of}
+use Rattle.enums.proofs.LawsNumbered.{refusal-only}
 use Rattle.format.specs.Tables.{Tables}
 use Rattle.format.specs.Sheet.{pool_length, pool_of}
 use Rattle.format.specs.Sound.{All, Fits}
@@ -16,13 +18,20 @@ use Rattle.format.proofs.Sheets.{sheet-judged, judged-pool}
 use Rattle.sheet.specs.Store.{words_in}
 use Rattle.sheet.proofs.LawsWords.{length-words_in}
 use Rattle.judge.specs.declared.Judged.{Judged}
-use Rattle.judge.specs.declared.SheetJudged.{SheetJudged}
-use Rattle.judge.specs.declared.SheetJudged.TheVariants as sheet
 use Rattle.judge.specs.Judge.{judged_bytes, judged_read, summary}
 use Rattle.judge.proofs.LawsPlaced.{stopped_none, judged-words, Passes, passed-of}
 use Rattle.images.specs.Written.{image_size, length_of, in_room, with_image, Told, ImageTold, JudgedWritten}
-use Rattle.images.specs.declared.Imaged.{Imaged}
-use Rattle.images.specs.declared.Imaged.TheVariants as told
+use Rattle.enums.specs.declared.Refusal.{Refusal}
+use Rattle.enums.specs.declared.Refusal.TheVariants as refusal
+
+-- What `ok_or` was given, by what it answers.
+pub ok_some : (o : code.Option Judged) (e : Refusal) {j : Judged} → Ok j ≡ code.ok_or o e → o ≡ code.Some j
+ok_some code.None e h = cc
+ok_some (code.Some b) e h = cc
+
+pub err-none : (o : code.Option Judged) (e : Refusal) {x : Refusal} → Err x ≡ code.ok_or o e → (o ≡ code.None) × (x ≡ e)
+err-none code.None e h = (refl, cc)
+err-none (code.Some b) e h = (cc, cc)
 
 -- The tables that a judged sheet and a pool stand for.
 module _ (s pool : List ℕ) (short : length s < 2 ^ 63) {j : Judged} (p : Passes s j) (n : length pool ≡ pool_length p.frame)
@@ -47,14 +56,14 @@ module _ (s pool : List ℕ) (short : length s < 2 ^ 63) {j : Judged} (p : Passe
         q.1,
       )
 
-module _ (s : List ℕ) {x : SheetJudged} (e : judged_read x ≡ summary (judged_bytes s)) where
+module _ (s : List ℕ) {x : code.Option Judged} (e : judged_read x ≡ summary (judged_bytes s)) where
   -- The sheet is not well-formed ..
-  pub image-stopped : x ≡ sheet.Stop → image_size (told.Refused refusals.unsound) ≡ length_of (imaged (blank (judged_bytes s)))
+  pub image-stopped : x ≡ code.None → image_size (Err refusal.Sheet) ≡ length_of (imaged (blank (judged_bytes s)))
   unfolding length_of imaged blank
   image-stopped h = sym (ap (λ o. length_of (imaged (blank o))) (stopped_none (judged_bytes s) (sym (ap judged_read h) ∙ e)))
 
-  pub write-stopped : (pool out : List ℕ) → x ≡ sheet.Stop →
-      (image_size (told.Refused refusals.unsound) ≡ in_room (length out) (imaged (with_pool pool (judged_bytes s)))) ×
+  pub write-stopped : (pool out : List ℕ) → x ≡ code.None →
+      (image_size (Err refusal.Sheet) ≡ in_room (length out) (imaged (with_pool pool (judged_bytes s)))) ×
       (out ≡ with_image out (imaged (with_pool pool (judged_bytes s))))
   unfolding in_room with_image imaged with_pool
   write-stopped pool out h =
@@ -63,12 +72,12 @@ module _ (s : List ℕ) {x : SheetJudged} (e : judged_read x ≡ summary (judged
         sym (ap (λ o. with_image out (imaged (with_pool pool o))) o),
       )
 
-  module _ {j : Judged} (h : x ≡ sheet.Passed j) where
+  module _ {j : Judged} (h : x ≡ code.Some j) where
     passes : Passes s j
     passes = passed-of s j (sym (ap judged_read h) ∙ e)
 
     -- .. or its image is measured ..
-    pub image-passed : {r : Imaged} → length s < 2 ^ 63 → ImageTold s j r → image_size r ≡ length_of (imaged (blank (judged_bytes s)))
+    pub image-passed : {r : Result ℕ Refusal} → length s < 2 ^ 63 → ImageTold s j r → image_size r ≡ length_of (imaged (blank (judged_bytes s)))
     unfolding blank
     image-passed short i =
         let p = passes in
@@ -78,7 +87,7 @@ module _ (s : List ℕ) {x : SheetJudged} (e : judged_read x ≡ summary (judged
 
     -- .. or the pool is not its own ..
     pub write-other : (pool out : List ℕ) → ¬ (j.pool ≡ length pool) →
-        (image_size (told.Refused refusals.unsound) ≡ in_room (length out) (imaged (with_pool pool (judged_bytes s)))) ×
+        (image_size (Err refusal.Sheet) ≡ in_room (length out) (imaged (with_pool pool (judged_bytes s)))) ×
         (out ≡ with_image out (imaged (with_pool pool (judged_bytes s))))
     unfolding in_room with_image imaged with_pool
     write-other pool out n =
@@ -91,7 +100,7 @@ module _ (s : List ℕ) {x : SheetJudged} (e : judged_read x ≡ summary (judged
         )
 
     -- .. or it is written.
-    pub write-passed : {pool out out' : List ℕ} {r : Imaged} → length s < 2 ^ 63 → All (Fits 8) pool → j.pool ≡ length pool →
+    pub write-passed : {pool out out' : List ℕ} {r : Result ℕ Refusal} → length s < 2 ^ 63 → All (Fits 8) pool → j.pool ≡ length pool →
         JudgedWritten s j pool out out' r →
         (image_size r ≡ in_room (length out) (imaged (with_pool pool (judged_bytes s)))) ×
         (out' ≡ with_image out (imaged (with_pool pool (judged_bytes s))))
@@ -109,19 +118,24 @@ module _ (s : List ℕ) {x : SheetJudged} (e : judged_read x ≡ summary (judged
         )
 
 -- Two answers that mean the same are the same.
-pub size_same : (x y : Imaged) → image_size x ≡ image_size y → x ≡ y
-size_same (told.Bytes n) (told.Bytes m) e = cc
-size_same (told.Bytes n) (told.Refused c) e = cc
-size_same (told.Refused c) (told.Bytes n) e = cc
-size_same (told.Refused c) (told.Refused d) e = cc
+pub size_same : (x y : Result ℕ Refusal) → image_size x ≡ image_size y → x ≡ y
+size_same (Ok n) (Ok m) e = cc
+size_same (Ok n) (Err c) e = cc
+size_same (Err c) (Ok n) e = cc
+size_same (Err c) (Err d) e =
+    let k : number_of c ≡ number_of d = cc in
+    ap Err (refusal-only k)
 
 -- Any two results that the contracts of `image` and `write` allow are equal.
-pub image-only : (s : List ℕ) (x y : Imaged) → image_size x ≡ length_of (imaged (blank (judged_bytes s))) →
+pub image-only : (s : List ℕ) (x y : Result ℕ Refusal) → image_size x ≡ length_of (imaged (blank (judged_bytes s))) →
     image_size y ≡ length_of (imaged (blank (judged_bytes s))) → x ≡ y
 image-only s x y e f = size_same x y (e ∙ sym f)
 
-pub write-only : (s pool out : List ℕ) {out' out'' : List ℕ} (x y : Imaged) →
+pub write-only : (s pool out : List ℕ) {out' out'' : List ℕ} (x y : Result ℕ Refusal) →
     image_size x ≡ in_room (length out) (imaged (with_pool pool (judged_bytes s))) → out' ≡ with_image out (imaged (with_pool pool (judged_bytes s))) →
     image_size y ≡ in_room (length out) (imaged (with_pool pool (judged_bytes s))) → out'' ≡ with_image out (imaged (with_pool pool (judged_bytes s))) →
     (x ≡ y) × (out' ≡ out'')
 write-only s pool out x y e o f q = (size_same x y (e ∙ sym f), o ∙ sym q)
+
+-- The laws by which the check proves `image`.
+pub ruleset handed = (ok_some, err-none, image-stopped, image-passed)

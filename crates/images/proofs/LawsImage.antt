@@ -1,6 +1,8 @@
 -- Sections one after the other, between the header and the end id, are the image. Assumes nothing.
-use Rattle.std.proofs.Common.{◌≡◌, ℕ, zero, suc, ◌+◌, ◌%◌, ◌^◌, ◌<◌, ◌≤◌, Bool, true, false, cond, ◌||◌, List, [], ◌∷◌, ◌++◌, map, length, get_or, drop, sym, refl, ap, ◌∙◌, subst, ap₂, inr, true≢false, append-nil, add-zero, mod-eq_of_lt, zero-add, add-one, arith, length-append, length-drop, drop-cons}
+use Rattle.std.proofs.Common.{◌≡◌, ℕ, zero, suc, ◌+◌, ◌%◌, ◌^◌, ◌<◌, Bool, true, false, cond, ◌||◌, List, [], ◌∷◌, ◌++◌, map, length, get_or, sym, refl, ap, ◌∙◌, subst, ap₂, inr, true≢false, not, nat_eq, Some, None, append-nil, add-zero, mod-eq_of_lt, zero-add, arith, length-append}
+use Rattle.std.proofs.lemmas.Bool.Decides.{nat_tests}
 use mathlib.Core.Option.{Option, none, some}
+use Rattle.std.specs.Prelude as answer
 use Rattle.exact.specs.Fixed.{bytes_of}
 use Rattle.exact.specs.Tiling.{join}
 use Rattle.enums.specs.Container.{magic, end_of_bytecode}
@@ -14,10 +16,10 @@ use Rattle.images.specs.Put.{Wrote}
 use Rattle.images.specs.Fields.{Copied}
 use Rattle.images.specs.Tables.{CountPut}
 use Rattle.images.specs.Sections.{Holds, part_in, runs_in, PayloadPut}
-use Rattle.images.specs.Images.{is_some, alignment_of, Presence, Opens, Aligned, AlignmentPut, section_bytes, SectionPut, HeaderPut, ImagePut}
+use Rattle.images.specs.Images.{is_some, Presence, Opens, Aligned, AlignmentPut, section_bytes, SectionPut, HeaderPut, ImagePut}
 use Rattle.images.specs.declared.fields.Pen.{Pen}
-use Rattle.images.specs.declared.sections.Section.{Section}
-use Rattle.images.specs.declared.sections.Section.TheVariants as section
+use Rattle.enums.specs.declared.Section.{Section}
+use Rattle.enums.specs.declared.Section.TheVariants as section
 use Rattle.images.proofs.LawsPut.{no_length, wrote-nil, wrote_then, wrote_as, wrote-nowhere}
 use Rattle.images.proofs.LawsFields.{ready-front, copied-then, copied-nil, copied-put, copied-ready, copied-as, copied_runs}
 use Rattle.images.proofs.LawsSheet.{
@@ -31,21 +33,22 @@ use Rattle.images.proofs.LawsSheet.{
   producer-word,
 }
 
-yes-some : (n : ℕ) → 0 < n → is_some n ≡ true
+pub some-yes : (n : ℕ) → ¬ (n ≡ 0) → is_some n ≡ true
 unfolding is_some
-yes-some zero h = absurd (omega arith)
-yes-some (suc n) h = refl
+some-yes zero h = absurd (h refl)
+some-yes (suc n) h = refl
 
-no-some : (n : ℕ) → n ≤ 0 → is_some n ≡ false
+pub some-no : (n : ℕ) → n ≡ 0 → is_some n ≡ false
 unfolding is_some
-no-some zero h = refl
-no-some (suc n) h = absurd (omega arith)
+some-no n h = rw h refl
 
-pub some-yes : {v w : ℕ} → v ≡ w → 0 < v → true ≡ is_some w
-some-yes {v} e h = sym (yes-some v h) ∙ ap is_some e
+not-zero : (n : ℕ) → not (nat_eq n 0) ≡ is_some n
+unfolding is_some
+not-zero zero = refl
+not-zero (suc n) = let h : ¬ (suc n ≡ 0) = omega arith in grind (arith, nat_tests)
 
-pub some-no : {v w : ℕ} → v ≡ w → v ≤ 0 → false ≡ is_some w
-some-no {v} e h = sym (no-some v h) ∙ ap is_some e
+pub counted : {v w : ℕ} → v ≡ w → not (nat_eq v 0) ≡ is_some w
+counted {v} e = not-zero v ∙ ap is_some e
 
 some-rows : {A : Type 0} (xs : List A) → is_some (length xs) ≡ has_rows xs
 unfolding is_some has_rows
@@ -54,8 +57,8 @@ some-rows (x ∷ xs) = refl
 
 some-named : (o : Option ℕ) → is_some (producer_word o) ≡ is_named o
 unfolding producer_word is_named
-some-named none = no-some 0 (omega arith)
-some-named (some i) = yes-some (i + 1) (omega arith)
+some-named none = some-no 0 refl
+some-named (some i) = some-yes (i + 1) (omega arith)
 
 -- A table has rows where its count is not 0.
 rows-there : {A : Type 0} {r : Bool} (s : List ℕ) (t : Tables) (i : ℕ) (xs : List A) → r ≡ is_some (get_or (words_in s) i 0) →
@@ -88,12 +91,12 @@ module _ {s : List ℕ} {r : Bool} where
   unfolding part_in function_part
   function-there e = record { each = λ t w h. rows-there s t 14 t.functions e w (functions-placed t h).number }
 
-  pub lists-there : r ≡ is_some (get_or (words_in s) 18 0) → r ≡ true → Presence section.Debug s true
+  pub lists-there : r ≡ is_some (get_or (words_in s) 18 0) → r ≡ true → Presence section.Debug s r
   unfolding part_in debug_part
   lists-there e k =
       record {
         each =
-            λ t w h. ap (λ b. b || has_rows t.attributes) (sym k ∙ rows-there s t 18 t.lists e w (lists-placed t).number);
+            λ t w h. k ∙ ap (λ b. b || has_rows t.attributes) (sym k ∙ rows-there s t 18 t.lists e w (lists-placed t).number);
       }
 
   pub attributes-there : {q : Bool} → r ≡ is_some (get_or (words_in s) 18 0) → r ≡ false → q ≡ is_some (get_or (words_in s) 16 0) →
@@ -108,14 +111,13 @@ module _ {s : List ℕ} {r : Bool} where
       }
 
 -- An alignment, if there is one.
-pub alignment-none : {a : ℕ} (at : ℕ) (out : List ℕ) → a ≡ 0 → AlignmentPut a at out out at
-unfolding alignment_of alignment_bytes
-alignment-none at out e = rw e (wrote-nil at out)
+pub alignment-none : (at : ℕ) (out : List ℕ) → AlignmentPut None at out out at
+unfolding alignment_bytes
+alignment-none at out = wrote-nil at out
 
-pub alignment-some : (a : ℕ) {at r : ℕ} {out out' : List ℕ} → ¬ (a ≡ 0) → CountPut a a 0 at out out' r → AlignmentPut a at out out' r
-unfolding alignment_of alignment_bytes
-alignment-some zero n x = absurd (n refl)
-alignment-some (suc a) {at} n x = x.each at (zero-add at)
+pub alignment-some : (a : ℕ) {at r : ℕ} {out out' : List ℕ} → CountPut a a 0 at out out' r → AlignmentPut (Some a) at out out' r
+unfolding alignment_bytes
+alignment-some a {at} x = x.each at (zero-add at)
 
 -- A payload that was measured: its length, and where the pool goes on.
 pub payload-measured : {k : Section} {c : VersionClass} {s pool : List ℕ} {p r : Pen} (l : List ℕ) → length l ≡ 0 →
@@ -152,7 +154,7 @@ payload-counted {k} {p = p} {m} next out x e n =
           };
     }
 
-module _ {k : Section} {c : VersionClass} {s pool : List ℕ} {n1 n2 n3 b0 a0 : ℕ} {p m q : Pen} {there : Bool} {out m1 m2 m3 out' : List ℕ}
+module _ {k : Section} {c : VersionClass} {s pool : List ℕ} {n1 n2 n3 b0 : ℕ} {a0 : answer.Option ℕ} {p m q : Pen} {there : Bool} {out m1 m2 m3 out' : List ℕ}
     (g : Presence k s there) (gy : there ≡ true) (w : PayloadPut k c s pool (record { word = p.word; run = p.run; at = 0 }) [] [] m)
     (o : Opens k b0) (x : Wrote (b0 ∷ []) p.at out m1 n1) (y : Wrote (spelling m.at) n1 m1 m2 n2) (l : Aligned k a0)
     (a : AlignmentPut a0 n2 m2 m3 n3) (z : PayloadPut k c s pool (record { word = p.word; run = p.run; at = n3 }) m3 out' q) where
@@ -189,13 +191,12 @@ module _ {k : Section} {c : VersionClass} {s pool : List ℕ} {n1 n2 n3 b0 a0 : 
       copied-then (copied-put x') (copied-then (copied-put y') (copied-then (copied-put a') (z.each t h)))))
 
 -- A section that is written ..
-pub section-put : {k : Section} {c : VersionClass} {s pool : List ℕ} {n1 n2 n3 b0 a0 : ℕ} {p m q : Pen} {there : Bool}
-    {out kept m1 m2 m3 out' : List ℕ} → Presence k s there → there ≡ true →
-    PayloadPut k c s pool (record { word = p.word; run = p.run; at = 0 }) [] [] m → kept ≡ out → Opens k b0 →
-    Wrote (b0 ∷ []) p.at kept m1 n1 → Wrote (spelling m.at) n1 m1 m2 n2 → Aligned k a0 → AlignmentPut a0 n2 m2 m3 n3 →
+pub section-put : {k : Section} {c : VersionClass} {s pool : List ℕ} {n1 n2 n3 b0 : ℕ} {a0 : answer.Option ℕ} {p m q : Pen} {there : Bool}
+    {out m1 m2 m3 out' : List ℕ} → Presence k s there → there ≡ true →
+    PayloadPut k c s pool (record { word = p.word; run = p.run; at = 0 }) [] [] m → Opens k b0 →
+    Wrote (b0 ∷ []) p.at out m1 n1 → Wrote (spelling m.at) n1 m1 m2 n2 → Aligned k a0 → AlignmentPut a0 n2 m2 m3 n3 →
     PayloadPut k c s pool (record { word = p.word; run = p.run; at = n3 }) m3 out' q → SectionPut k c s pool p out out' q
-section-put {n1 = n1} {b0 = b0} {p = p} {m1 = m1} g gy w e o x y l a z =
-    record { each = section-each g gy w o (subst (λ l. Wrote (b0 ∷ []) p.at l m1 n1) e x) y l a z }
+section-put g gy w o x y l a z = record { each = section-each g gy w o x y l a z }
 
 -- .. and one that is not has no runs either.
 no_rows : {A : Type 0} (xs : List A) → has_rows xs ≡ false → xs ≡ []
@@ -331,9 +332,5 @@ image-put {s = s} {pool} {n0} {r} {p7 = p7} {out = out} {m0 = m0} {out' = out'} 
           })).puts;
     }
 
--- The bytes of a list from place i on.
-pub bytes_next : (l : List ℕ) (i : ℕ) → i < length l → drop i l ≡ get_or l i 0 ∷ drop (i + 1) l
-bytes_next l i h = drop-cons l i 0 h ∙ ap (λ n. get_or l i 0 ∷ drop n l) (sym (add-one i))
-
-pub bytes-end : (l : List ℕ) (i : ℕ) → length l ≤ i → drop i l ≡ []
-bytes-end l i h = let e = length-drop i l in no_length (drop i l) (omega arith)
+-- The laws by which the check proves what puts sections, and what tells whether one is written.
+pub ruleset containers = (header-put, image-put, section-put, section-none, alignment-none, alignment-some, payload-measured, payload-counted, counted, string-there, producer-there, type-there, constant-there, global-there, function-there, lists-there, attributes-there)

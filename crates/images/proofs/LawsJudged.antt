@@ -1,9 +1,10 @@
 -- The answers of writing a judged sheet are the model's. Assumes nothing.
-use Rattle.std.proofs.Common.{◌≡◌, ℕ, ◌+◌, ◌^◌, ◌<◌, ◌≤◌, Bool, true, false, List, [], length, sym, refl, ap, ◌∙◌, subst, inl, inr, zero-add, arith}
+use Rattle.std.proofs.Common.{Result, Ok, Err, ◌≡◌, ℕ, ◌+◌, ◌^◌, ◌<◌, ◌≤◌, Bool, true, false, List, [], length, sym, refl, ap, ◌∙◌, subst, inl, inr, zero-add, arith}
 use native.Mathlib.Decide.{dec_le}
 use mathlib.Core.Option.{some, some-injective}
 use Rattle.exact.proofs.LawsChoice.{choose_yes, choose_no}
 use Rattle.enums.specs.Refusals as refusals
+use Rattle.enums.specs.Numbered.{number_of}
 use Rattle.encoding.specs.Out.{put}
 use Rattle.encoding.proofs.LawsOut.{put_full}
 use Rattle.format.specs.Read.{accepted}
@@ -20,8 +21,8 @@ use Rattle.sheet.proofs.LawsLies.{whole-lies}
 use Rattle.images.specs.Images.{ImagePut}
 use Rattle.images.specs.Starts.{FitTold}
 use Rattle.images.specs.Written.{not_written, image_size, length_of, in_room, with_image, Told, ImageTold, JudgedWritten}
-use Rattle.images.specs.declared.Imaged.{Imaged}
-use Rattle.images.specs.declared.Imaged.TheVariants as told
+use Rattle.enums.specs.declared.Refusal.{Refusal}
+use Rattle.enums.specs.declared.Refusal.TheVariants as refusal
 use Rattle.images.proofs.LawsSheet.{pool-fits}
 use Rattle.images.proofs.LawsWritten.{image-fits, pool-le}
 
@@ -61,7 +62,7 @@ module _ {s pool : List ℕ} {j : Judged} {l : List ℕ} {r : ℕ} (n : j.pool �
   over-size g = record { each = λ t h. let q = size-told t h in omega arith }
 
   -- .. and else its length is the answer.
-  pub told-fine : r ≤ 0x40000000 → ImageTold s j (told.Bytes r)
+  pub told-fine : r ≤ 0x40000000 → ImageTold s j (Ok r)
   unfolding length_of
   told-fine g =
       record {
@@ -74,12 +75,12 @@ module _ {s pool : List ℕ} {j : Judged} {l : List ℕ} {r : ℕ} (n : j.pool �
 
 -- What is over the limit has a start that does not fit, or not.
 module _ {s : List ℕ} {j : Judged} {b : Bool} (o : Over s j) (x : FitTold j.class s b) where
-  pub told-limit : b ≡ true → ImageTold s j (told.Refused refusals.limit)
+  pub told-limit : b ≡ true → ImageTold s j (Err refusal.Limit)
   unfolding length_of
   told-limit e =
       record { each = λ t h. ap length_of (sym (image-large t ((x.each t h.holds).holds e) (o.each t h))) }
 
-  pub told-start : b ≡ false → ImageTold s j (told.Refused refusals.start_too_large)
+  pub told-start : b ≡ false → ImageTold s j (Err refusal.Start)
   unfolding length_of
   told-start e = record { each = λ t h. ap length_of (sym (start-large t ((x.each t h.holds).fails e))) }
 
@@ -115,35 +116,35 @@ fine-as size out out' t (writes bs) q e h f =
 fine-as size out out' t (refuses k) q e h f = let z : ◌≡◌ {A = ℕ} 0 1 = cc in absurd (omega (arith, z))
 
 -- A refusal leaves the output, ..
-pub written-refused : {s pool out kept : List ℕ} {j : Judged} {n : ℕ} {r : Imaged} → ImageTold s j r → kept ≡ out → r ≡ told.Refused n →
-    JudgedWritten s j pool out kept (told.Refused n)
-written-refused {out = out} {n = n} x o e =
+pub written-refused : {s pool out : List ℕ} {j : Judged} {n : Refusal} {r : Result ℕ Refusal} → ImageTold s j r → r ≡ Err n →
+    JudgedWritten s j pool out out (Err n)
+written-refused {out = out} {n = n} x e =
     record {
       each =
           λ t h q.
-          let p = refused_as n (length out) out (imaged (some t)) (sym (ap image_size e) ∙ x.each t h) in (p.0, o ∙ p.1);
+          refused_as (number_of n) (length out) out (imaged (some t)) (sym (ap image_size e) ∙ x.each t h);
     }
 
 -- .. so does one that has no room, ..
-pub written_small : {s pool out kept : List ℕ} {j : Judged} {size : ℕ} {r : Imaged} → ImageTold s j r → kept ≡ out → r ≡ told.Bytes size →
-    length kept < size → JudgedWritten s j pool out kept (told.Refused refusals.full)
-written_small {out = out} {kept = kept} {size = size} x o e g =
+pub written_small : {s pool out : List ℕ} {j : Judged} {size : ℕ} {r : Result ℕ Refusal} → ImageTold s j r → r ≡ Ok size →
+    length out < size → JudgedWritten s j pool out out (Err refusal.Full)
+written_small {out = out} {size = size} x e g =
     record {
       each =
           λ t h q.
-          let l : length out < size = subst (λ z. length z < size) o g in
-          let p = small-as size out (imaged (some t)) (sym (ap image_size e) ∙ x.each t h) l in (p.0, o ∙ p.1);
+          small-as size out (imaged (some t)) (sym (ap image_size e) ∙ x.each t h) g;
     }
 
 -- .. and else the image is put.
-pub written-fine : {s pool out kept out' : List ℕ} {j : Judged} {size next : ℕ} {r : Imaged} → ImageTold s j r → kept ≡ out →
-    r ≡ told.Bytes size → size ≤ length kept → ImagePut j.class s pool kept out' next → JudgedWritten s j pool out out' (told.Bytes size)
-written-fine {s} {pool} {out} {kept} {out'} {j} {size} {next} x o e g y =
+pub written-fine : {s pool out out' : List ℕ} {j : Judged} {size next : ℕ} {r : Result ℕ Refusal} → ImageTold s j r →
+    r ≡ Ok size → size ≤ length out → ImagePut j.class s pool out out' next → JudgedWritten s j pool out out' (Ok size)
+written-fine {pool = pool} {out = out} {out' = out'} {size = size} x e g y =
     record {
       each =
           λ t h q.
-          let l : size ≤ length out = subst (λ z. size ≤ length z) o g in
-          let y' = subst (λ z. ImagePut j.class s pool z out' next) o y in
-          fine-as size out out' t (imaged (some t)) refl (sym (ap image_size e) ∙ x.each t h) l
-          (λ b m. (y'.each t h.holds (inl (subst (Lies pool 0) q (whole-lies pool))) (pool-fits t h.holds.sound) b).output (rw zero-add m));
+          fine-as size out out' t (imaged (some t)) refl (sym (ap image_size e) ∙ x.each t h) g
+          (λ b m. (y.each t h.holds (inl (subst (Lies pool 0) q (whole-lies pool))) (pool-fits t h.holds.sound) b).output (rw zero-add m));
     }
+
+-- The laws by which the check proves what measures and writes.
+pub ruleset writings = (over-pool, over-size, told-fine, told-limit, told-start, written-refused, written_small, written-fine)

@@ -1,4 +1,10 @@
 -- Bytes that are put one after the other, and runs of the pool among them. Assumes nothing.
+use Rattle.encoding.proofs.LawsOut.{put_one, put_full, bytes_of-next, replicate_next}
+use Rattle.encoding.proofs.LawsVarint.{spelling-last, spelling-more}
+use Rattle.exact.proofs.LawsFixed.{length-bytes_of}
+use Rattle.exact.proofs.LawsPadding.{gap-none, gap-some}
+use Rattle.std.proofs.Common.{mod-lt}
+use Rattle.std.proofs.Math.Nat.{sub-zero}
 use Rattle.std.proofs.Common.{◌≡◌, ℕ, ◌+◌, ◌-◌, ◌%◌, ◌^◌, ◌<◌, ◌≤◌, ◌⊎◌, List, [], ◌∷◌, ◌++◌, length, take, drop, replicate, sym, refl, ap, ◌∙◌, subst, ap₂, inl, inr, add-zero, mod-eq_of_lt, arith, length-append}
 use Rattle.exact.specs.Fixed.{bytes_of}
 use Rattle.enums.specs.Container.{P}
@@ -124,3 +130,6 @@ run-counted pool i len at next out f n = record { each = go }
     go : (run : List ℕ) → length run ≡ len → Lent pool i run out → Wrote run at out out next
     go run l (inl h) = absurd (f (omega (arith, lies-inside run h)))
     go run l (inr e) = wrote-run run len at next out out l (rw (e, put-none)) n
+
+-- The laws by which the check proves what puts bytes, runs and padding.
+pub ruleset puts = (sub-zero, put_one, put_full, wrote-run, wrote_as, wrote-next, le-none, padding-none, bytes_of-next, replicate_next, spelling-last, spelling-more, run-put, run-counted, length-bytes_of, gap-none, gap-some, mod-lt)

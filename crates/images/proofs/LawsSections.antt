@@ -18,7 +18,7 @@ use Rattle.images.specs.declared.fields.Pen.{Pen}
 use Rattle.images.specs.declared.rows.Row.{Row}
 use Rattle.images.specs.declared.rows.Row.TheVariants as row
 use Rattle.images.specs.declared.rows.Table.{Table}
-use Rattle.images.specs.declared.sections.Section.TheVariants as section
+use Rattle.enums.specs.declared.Section.TheVariants as section
 use Rattle.images.proofs.LawsFields.{copied-then, copied-nil, copied-put, copied-as, copied_runs}
 use Rattle.images.proofs.LawsSheet.{
   strings-placed,
@@ -129,25 +129,25 @@ module _ {c : VersionClass} {s pool : List ℕ} {p q : Pen} {out out' : List ℕ
 
 -- The producer's index, one less than its word.
 module _ {s pool : List ℕ} {p : Pen} {v : ℕ} where
-  named : {next : ℕ} {out out' : List ℕ} → 0 < v → Wrote (spelling (v - 1)) p.at out out' next → (o : Option ℕ) → v ≡ producer_word o →
+  named : {n next : ℕ} {out out' : List ℕ} → 1 ≤ v → n ≡ v - 1 → Wrote (spelling n) p.at out out' next → (o : Option ℕ) → v ≡ producer_word o →
       Copied [] [] (producer_bytes o) s pool p out out' (record { word = p.word; run = p.run; at = next })
   unfolding producer_word producer_bytes
-  named h x none e = absurd (omega arith)
-  named h x (some i) e = let k : v - 1 ≡ i = omega arith in copied-as (ap spelling k) (copied-put x)
+  named h m x none e = absurd (omega arith)
+  named {n} h m x (some i) e = let k : n ≡ i = omega arith in copied-as (ap spelling k) (copied-put x)
 
-  unnamed : (out : List ℕ) → v ≤ 0 → (o : Option ℕ) → v ≡ producer_word o → Copied [] [] (producer_bytes o) s pool p out out p
+  unnamed : (out : List ℕ) → ¬ (1 ≤ v) → (o : Option ℕ) → v ≡ producer_word o → Copied [] [] (producer_bytes o) s pool p out out p
   unfolding producer_word producer_bytes
   unnamed out h none e = copied-nil p out
-  unnamed out h (some i) e = absurd (omega arith)
+  unnamed out h (some i) e = absurd (h (omega arith))
 
-pub producer-named : {c : VersionClass} {s pool : List ℕ} {p : Pen} {next v : ℕ} {out out' : List ℕ} → v ≡ get_or (words_in s) 3 0 → 0 < v →
-    Wrote (spelling (v - 1)) p.at out out' next →
+pub producer-named : {c : VersionClass} {s pool : List ℕ} {p : Pen} {next v n : ℕ} {out out' : List ℕ} → v ≡ get_or (words_in s) 3 0 → 1 ≤ v →
+    n ≡ v - 1 → Wrote (spelling n) p.at out out' next →
     PayloadPut section.Producer c s pool p out out' (record { word = p.word; run = p.run; at = next })
 unfolding part_in runs_in producer_part
-producer-named e z x =
-    record { each = λ t h. named z x t.producer (e ∙ ap (λ ws. get_or ws 3 0) h.words ∙ producer-word t) }
+producer-named e z m x =
+    record { each = λ t h. named z m x t.producer (e ∙ ap (λ ws. get_or ws 3 0) h.words ∙ producer-word t) }
 
-pub producer-unnamed : {c : VersionClass} {s pool : List ℕ} {p : Pen} {v : ℕ} (out : List ℕ) → v ≡ get_or (words_in s) 3 0 → v ≤ 0 →
+pub producer-unnamed : {c : VersionClass} {s pool : List ℕ} {p : Pen} {v : ℕ} (out : List ℕ) → v ≡ get_or (words_in s) 3 0 → ¬ (1 ≤ v) →
     PayloadPut section.Producer c s pool p out out p
 unfolding part_in runs_in producer_part
 producer-unnamed out e z =

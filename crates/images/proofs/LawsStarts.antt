@@ -1,5 +1,7 @@
 -- Starts are told to fit one by one, and so are those of all tables. Assumes nothing.
-use Rattle.std.proofs.Common.{◌≡◌, ℕ, ◌-◌, ◌^◌, ◌<◌, ◌≤◌, Bool, true, false, List, [], ◌∷◌, map, length, get_or, refl, ap, subst, arith}
+use Rattle.images.proofs.LawsTables.{ids-le}
+use Rattle.std.proofs.Math.Nat.{sub-zero}
+use Rattle.std.proofs.Common.{sym, ◌∙◌, true≢false, ◌≡◌, ℕ, suc, ◌^◌, ◌<◌, ◌≤◌, Bool, true, false, List, [], ◌∷◌, map, length, get_or, refl, ap, subst, arith}
 use Rattle.exact.specs.Tiling.{join, sums}
 use Rattle.enums.specs.declared.VersionClass.{VersionClass}
 use Rattle.encoding.specs.Out.{Tells}
@@ -35,12 +37,12 @@ module _ (c : VersionClass) (k : Row) (unit : RowOf k → List ℕ) (s : List �
   large-each n word start z g [] h = let m = h.placed.number in absurd (omega arith)
   large-each n word start z g (x ∷ xs) h = tells-no (λ a. let b = a.0 in omega (arith, b, g))
 
-  more-each : (n start : ℕ) → 0 < n → start ≤ 0xFFFFFFFF → {word word' start' : ℕ} {r : Bool} →
+  more-each : {n m : ℕ} (start : ℕ) → n ≡ suc m → start ≤ 0xFFFFFFFF → {word word' start' : ℕ} {r : Bool} →
       ((x : RowOf k) → length (unit x) ≤ length (row_bytes c k x)) → NextEntry c k unit s word start word' start' →
-      StartsTold c k unit (n - 1) s word' start' r → (xs : List (RowOf k)) → Starting c k xs n s word start → Answer start r xs
-  more-each n start z g le y t [] h = let m = h.placed.number in absurd (omega arith)
-  more-each n start z g {r = r} le y t (x ∷ xs) h =
-      let q = starting-next x xs (le x) y h in
+      StartsTold c k unit m s word' start' r → (xs : List (RowOf k)) → Starting c k xs n s word start → Answer start r xs
+  more-each start z g le y t [] h = let m = h.placed.number in absurd (omega arith)
+  more-each start z g {r = r} le y t (x ∷ xs) h =
+      let q = starting-next x xs z (le x) y h in
       let t' = subst (λ j. Answer j r xs) q.moved (t.each xs q.rest) in
       let fits : Fits 32 start = omega arith in
       record { holds = λ e. (fits, t'.holds e); fails = λ e w. t'.fails e w.1 }
@@ -54,11 +56,11 @@ pub told-large : (c : VersionClass) (k : Row) (unit : RowOf k → List ℕ) (n :
     0xFFFFFFFF < start → StartsTold c k unit n s word start false
 told-large c k unit n s word start z g = record { each = large-each c k unit s n word start z g }
 
-pub told_more : {c : VersionClass} {k : Row} {unit : RowOf k → List ℕ} {s : List ℕ} (n start : ℕ) → 0 < n → start ≤ 0xFFFFFFFF →
+pub told_more : {c : VersionClass} {k : Row} {unit : RowOf k → List ℕ} {s : List ℕ} {n m : ℕ} (start : ℕ) → n ≡ suc m → start ≤ 0xFFFFFFFF →
     {word word' start' : ℕ} {r : Bool} → ((x : RowOf k) → length (unit x) ≤ length (row_bytes c k x)) →
-    NextEntry c k unit s word start word' start' → StartsTold c k unit (n - 1) s word' start' r →
+    NextEntry c k unit s word start word' start' → StartsTold c k unit m s word' start' r →
     StartsTold c k unit n s word start r
-told_more {c} {k} {unit} {s} n start z g le y t = record { each = more-each c k unit s n start z g le y t }
+told_more {c} {k} {unit} {s} start z g le y t = record { each = more-each c k unit s start z g le y t }
 
 -- What is told of the table whose start and count are two words of the contents.
 pub record TableTold (c : VersionClass) (s : List ℕ) (k : Row) (unit : RowOf k → List ℕ) (i j : ℕ) (r : Bool) : Type 0 where
@@ -124,35 +126,70 @@ module _ {c : VersionClass} {s : List ℕ} (t : Tables) (h : Holds c t s) where
       told-placed t.lists (sums 0 t.lists) x (placed-in h 17 18 (lists-placed t)) (omega arith) (omega arith)
       (ap (sums 0) (same-ids t.lists))
 
--- Not all starts fit where those of one table do not ..
+-- What is told of some of the starts of whatever tables the sheet stands for.
+pub record PartTold (c : VersionClass) (s : List ℕ) (P : Tables → Type 0) (r : Bool) : Type 0 where
+  pub each : (t : Tables) → Holds c t s → Tells (P t) r
+
+abbrev pub StringsFit : Tables → Type 0
+StringsFit t = All (Fits 32) (sums 0 t.strings)
+
+abbrev pub TypesFit : Tables → Type 0
+TypesFit t = All (Fits 32) (sums 0 (map (type_bytes (class t.version)) t.types))
+
+abbrev pub ListsFit : Tables → Type 0
+ListsFit t = All (Fits 32) (sums 0 t.lists)
+
+abbrev pub AttributesFit : Tables → Type 0
+AttributesFit t = All (Fits 32) (sums 0 (map attribute_bytes t.attributes))
+
 module _ {c : VersionClass} {s : List ℕ} where
-  pub strings-large : {r : Bool} → TableTold c s row.Run (row_bytes c row.Run) 5 6 r → r ≡ false → FitTold c s false
-  strings-large x e = record { each = λ t h. tells-no (λ f. (strings-fit t h x).fails e f.strings) }
+  pub strings-told : {r : Bool} → TableTold c s row.Run (row_bytes c row.Run) 5 6 r → PartTold c s StringsFit r
+  strings-told x = record { each = λ t h. strings-fit t h x }
 
-  pub types-large : {r : Bool} → TableTold c s row.Type (row_bytes c row.Type) 7 8 r → r ≡ false → FitTold c s false
-  types-large x e = record { each = λ t h. tells-no (λ f. (types-fit t h x).fails e f.types) }
+  pub types-told : {r : Bool} → TableTold c s row.Type (row_bytes c row.Type) 7 8 r → PartTold c s TypesFit r
+  types-told x = record { each = λ t h. types-fit t h x }
 
-  pub lists-large : {r : Bool} → TableTold c s row.List ids 17 18 r → r ≡ false → FitTold c s false
-  lists-large x e = record { each = λ t h. tells-no (λ f. (lists-fit t h x).fails e f.lists) }
+  pub ids-told : {r : Bool} → TableTold c s row.List ids 17 18 r → PartTold c s ListsFit r
+  ids-told x = record { each = λ t h. lists-fit t h x }
 
-  -- .. and they do where those of every table do.
-  pub all_told : {a b d r : Bool} → TableTold c s row.Run (row_bytes c row.Run) 5 6 a → a ≡ true →
-      TableTold c s row.Type (row_bytes c row.Type) 7 8 b → b ≡ true → TableTold c s row.List ids 17 18 d → d ≡ true →
-      TableTold c s row.Attribute (row_bytes c row.Attribute) 15 16 r → FitTold c s r
-  all_told x ea y eb z ed w =
+  pub attributes-told : {r : Bool} → TableTold c s row.Attribute (row_bytes c row.Attribute) 15 16 r → PartTold c s AttributesFit r
+  attributes-told x = record { each = λ t h. attributes-fit t h x }
+
+  -- Where the first part fits, the second decides; where it does not, both do not.
+  pub both-told : {P Q : Tables → Type 0} {a b r : Bool} → PartTold c s P a → a ≡ true → PartTold c s Q b → r ≡ b →
+      PartTold c s (λ t. P t × Q t) r
+  both-told x e y i =
       record {
         each =
             λ t h.
-            let q = attributes-fit t h w in
+            record {
+              holds = λ k. ((x.each t h).holds e, (y.each t h).holds (sym i ∙ k));
+              fails = λ k w. (y.each t h).fails (sym i ∙ k) w.1;
+            };
+      }
+
+  pub both-not : {P Q : Tables → Type 0} {a r : Bool} → PartTold c s P a → a ≡ false → r ≡ a → PartTold c s (λ t. P t × Q t) r
+  both-not x e i =
+      record {
+        each =
+            λ t h. record { holds = λ k. absurd (true≢false (sym k ∙ i ∙ e)); fails = λ k w. (x.each t h).fails e w.0 };
+      }
+
+  -- All starts are those of the four tables.
+  pub all_told : {r : Bool} → PartTold c s (λ t. ((StringsFit t × TypesFit t) × ListsFit t) × AttributesFit t) r → FitTold c s r
+  all_told x =
+      record {
+        each =
+            λ t h.
+            let q = x.each t h in
             record {
               holds =
                   λ e.
-                  record {
-                    strings = (strings-fit t h x).holds ea;
-                    types = (types-fit t h y).holds eb;
-                    lists = (lists-fit t h z).holds ed;
-                    attributes = q.holds e;
-                  };
-              fails = λ e f. q.fails e f.attributes;
+                  let w = q.holds e in
+                  record { strings = w.0.0.0; types = w.0.0.1; lists = w.0.1; attributes = w.1 };
+              fails = λ e f. q.fails e (((f.strings, f.types), f.lists), f.attributes);
             };
       }
+
+-- The laws by which the check proves what asks of the starts of a table.
+pub ruleset told = (sub-zero, ids-le, told_none, told-large, told_more)

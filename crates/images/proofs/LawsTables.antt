@@ -1,5 +1,6 @@
 -- A count, padding, starts and rows, one after the other, are an offset table. Assumes nothing.
-use Rattle.std.proofs.Common.{◌≡◌, ℕ, suc, ◌+◌, ◌-◌, ◌*◌, ◌%◌, ◌^◌, ◌<◌, ◌≤◌, List, [], ◌∷◌, ◌++◌, map, length, get_or, replicate, sym, ap, ◌∙◌, subst, inr, append_assoc, mod-eq_of_lt, suc-mul, zero-add, zero-mul, arith, length-append}
+use Rattle.std.proofs.Math.Nat.{sub-zero}
+use Rattle.std.proofs.Common.{refl, ◌≡◌, ℕ, suc, ◌+◌, ◌-◌, ◌*◌, ◌%◌, ◌^◌, ◌<◌, ◌≤◌, List, [], ◌∷◌, ◌++◌, map, length, get_or, replicate, sym, ap, ◌∙◌, subst, inr, append_assoc, mod-eq_of_lt, zero-add, arith, length-append}
 use lib.ListN.{length-map}
 use Rattle.exact.specs.Fixed.{bytes_of}
 use Rattle.exact.specs.Padding.{gap}
@@ -47,16 +48,16 @@ count-put {n} {a} {base} {at} {mid = mid} {out' = out'} {next = next} {place = p
     }
 
 -- An entry that was put into an output of no bytes is that long.
-pub entry_next : {c : VersionClass} {k : Row} {s pool : List ℕ} {word start start' : ℕ} {z : Pen} {l out : List ℕ} →
-    RowCopied c k s pool (record { word = word; run = 0; at = 0 }) out l z → out ≡ [] → start' ≡ (start + z.at) % 2 ^ 64 →
+pub entry_next : {c : VersionClass} {k : Row} {s pool : List ℕ} {word start start' : ℕ} {z : Pen} {l : List ℕ} →
+    RowCopied c k s pool (record { word = word; run = 0; at = 0 }) [] l z → start' ≡ (start + z.at) % 2 ^ 64 →
     NextEntry c k (row_bytes c k) s word start z.word start'
-entry_next {c} {k} {start = start} {z = z} x o e =
+entry_next {c} {k} {start = start} {z = z} x e =
     record {
       each =
           λ y g i fw fr fb.
           let v =
           (x.each y g).moved
-          (record { words = i; lent = inr o; words_fit = fw; run_fits = omega arith; bytes_fit = omega arith }) in
+          (record { words = i; lent = inr refl; words_fit = fw; run_fits = omega arith; bytes_fit = omega arith }) in
           let a : z.at ≡ length (row_bytes c k y) = v.puts.place ∙ zero-add (length (row_bytes c k y)) in
           let b : start + z.at < 2 ^ 64 = omega arith in
           (v.word, e ∙ mod-eq_of_lt b ∙ ap (λ n. start + n) a);
@@ -92,9 +93,9 @@ pub record Stepped (c : VersionClass) (k : Row) (unit : RowOf k → List ℕ) (x
   pub rest : Starting c k xs n s word' start'
 
 pub starting-next : {c : VersionClass} {k : Row} {unit : RowOf k → List ℕ} {s : List ℕ} {n word start word' start' : ℕ} (x : RowOf k)
-    (xs : List (RowOf k)) → length (unit x) ≤ length (row_bytes c k x) → NextEntry c k unit s word start word' start' →
-    Starting c k (x ∷ xs) n s word start → Stepped c k unit x xs (n - 1) s start word' start'
-starting-next {c} {k} {s = s} {word = word} {word' = word'} x xs le y h =
+    (xs : List (RowOf k)) {m : ℕ} → n ≡ suc m → length (unit x) ≤ length (row_bytes c k x) → NextEntry c k unit s word start word' start' →
+    Starting c k (x ∷ xs) n s word start → Stepped c k unit x xs m s start word' start'
+starting-next {c} {k} {s = s} {word = word} {word' = word'} x xs z le y h =
     let lw = length-append (row_words k x) (join (map (row_words k) xs)) in
     let lr = length-append (row_run k x) (join (map (row_run k) xs)) in
     let lb = length-append (row_bytes c k x) (join (map (row_bytes c k) xs)) in
@@ -130,13 +131,13 @@ module _ (c : VersionClass) (k : Row) (unit : RowOf k → List ℕ) (w : ℕ) (s
   none_each n word start at out z [] h = wrote-nil at out
   none_each n word start at out z (x ∷ xs) h = let m = h.placed.number in absurd (omega arith)
 
-  more-each : (n start : ℕ) → 0 < n → {word at next r word' start' : ℕ} {out mid out' : List ℕ} →
+  more-each : {n m : ℕ} (start : ℕ) → n ≡ suc m → {word at next r word' start' : ℕ} {out mid out' : List ℕ} →
       ((x : RowOf k) → length (unit x) ≤ length (row_bytes c k x)) → Wrote (bytes_of w start) at out mid next →
-      NextEntry c k unit s word start word' start' → StartsPut c k unit w (n - 1) s word' start' next mid out' r →
+      NextEntry c k unit s word start word' start' → StartsPut c k unit w m s word' start' next mid out' r →
       (xs : List (RowOf k)) → Starting c k xs n s word start → Wrote (flat w (sums start (map unit xs))) at out out' r
-  more-each n start z le x y g [] h = let m = h.placed.number in absurd (omega arith)
-  more-each n start z {next = next} {r} {mid = mid} {out'} le x y g (v ∷ vs) h =
-      let q = starting-next v vs (le v) y h in
+  more-each start z le x y g [] h = let m = h.placed.number in absurd (omega arith)
+  more-each start z {next = next} {r} {mid = mid} {out'} le x y g (v ∷ vs) h =
+      let q = starting-next v vs z (le v) y h in
       wrote_then x (subst (λ j. Wrote (flat w (sums j (map unit vs))) next mid out' r) q.moved (g.each vs q.rest))
 
 -- No starts, or one and then the others.
@@ -144,21 +145,16 @@ pub starts_none : (c : VersionClass) (k : Row) (unit : RowOf k → List ℕ) (w 
     StartsPut c k unit w n s word start at out out at
 starts_none c k unit w n s word start at out z = record { each = none_each c k unit w s n word start at out z }
 
-pub starts_more : {c : VersionClass} {k : Row} {unit : RowOf k → List ℕ} {w : ℕ} {s : List ℕ} (n : ℕ) → 0 < n →
-    {word start at next r word' start' : ℕ} {out mid kept out' : List ℕ} →
+pub starts_more : {c : VersionClass} {k : Row} {unit : RowOf k → List ℕ} {w : ℕ} {s : List ℕ} {n m : ℕ} → n ≡ suc m →
+    {word start at next r word' start' : ℕ} {out mid out' : List ℕ} →
     ((x : RowOf k) → length (unit x) ≤ length (row_bytes c k x)) → Wrote (bytes_of w start) at out mid next →
-    NextEntry c k unit s word start word' start' → kept ≡ mid →
-    StartsPut c k unit w (n - 1) s word' start' next kept out' r → StartsPut c k unit w n s word start at out out' r
-starts_more {c} {k} {unit} {w} {s} n z {start = start} {next = next} {r = r} {word' = word'} {start' = start'} {out' = out'} le x y e g =
-    record {
-      each =
-          more-each c k unit w s n start z le x y
-          (subst (λ o. StartsPut c k unit w (n - 1) s word' start' next o out' r) e g);
-    }
+    NextEntry c k unit s word start word' start' →
+    StartsPut c k unit w m s word' start' next mid out' r → StartsPut c k unit w n s word start at out out' r
+starts_more {c} {k} {unit} {w} {s} z {start = start} le x y g = record { each = more-each c k unit w s start z le x y g }
 
 -- Into an output of no bytes no start is put, and each takes the place its width further.
 pub starts-skipped : (c : VersionClass) (k : Row) (unit : RowOf k → List ℕ) (w n : ℕ) (s : List ℕ) (word start at r : ℕ) (out : List ℕ) →
-    length out ≡ 0 → r ≡ (at + n * w) % 2 ^ 64 → StartsPut c k unit w n s word start at out out r
+    length out ≡ 0 → r ≡ (at + (n * w) % 2 ^ 64) % 2 ^ 64 → StartsPut c k unit w n s word start at out out r
 starts-skipped c k unit w n s word start at r out e p =
     record {
       each =
@@ -166,20 +162,8 @@ starts-skipped c k unit w n s word start at r out e p =
           let es = map unit xs in
           let m : length (sums start es) ≡ n = length-sums start es ∙ length-map xs unit ∙ h.placed.number in
           let d = length-flat w (sums start es) ∙ ap (λ (j : ℕ). j * w) m in
-          wrote-nowhere (flat w (sums start es)) (n * w) at r out d e p;
+          wrote-nowhere (flat w (sums start es)) (n * w) at r out d e (p ∙ omega arith);
     }
-
--- No start to skip, or one and then the others.
-pub skip-none : (w n at : ℕ) → n ≤ 0 → at < 2 ^ 64 → at ≡ (at + n * w) % 2 ^ 64
-skip-none w n at z h =
-    let e : n ≡ 0 = omega arith in
-    let x = zero-mul w in
-    rw e (omega arith)
-
-pub skip-more : (w n m at next : ℕ) → n ≡ suc m → next ≡ (at + w) % 2 ^ 64 → (next + m * w) % 2 ^ 64 ≡ (at + n * w) % 2 ^ 64
-skip-more w n m at next e p =
-    let x = suc-mul m w in
-    rw e (omega arith)
 
 -- Where the last of the lists ends.
 pub record ListsEnd (n : ℕ) (s : List ℕ) (word start end : ℕ) : Type 0 where
@@ -193,21 +177,21 @@ end-each n s word start z c (x ∷ xs) h = let m = h.placed.number in absurd (om
 pub lists-end : (n : ℕ) (s : List ℕ) (word start : ℕ) → n ≤ 0 → ListsEnd n s word start start
 lists-end n s word start z = record { each = end-each n s word start z }
 
-on-each : (n : ℕ) → 0 < n → {s : List ℕ} {word start word' start' end : ℕ} →
-    ((c : VersionClass) → NextEntry c row.List ids s word start word' start') → ListsEnd (n - 1) s word' start' end →
+on-each : {n m : ℕ} → n ≡ suc m → {s : List ℕ} {word start word' start' end : ℕ} →
+    ((c : VersionClass) → NextEntry c row.List ids s word start word' start') → ListsEnd m s word' start' end →
     (c : VersionClass) (xs : List (List ℕ)) → Starting c row.List xs n s word start → end ≡ start + length (join xs)
-on-each n z y g c [] h = let m = h.placed.number in absurd (omega arith)
-on-each n z y g c (x ∷ xs) h =
-    let q = starting-next x xs (ids-le c x) (y c) h in
+on-each z y g c [] h = let m = h.placed.number in absurd (omega arith)
+on-each z y g c (x ∷ xs) h =
+    let q = starting-next x xs z (ids-le c x) (y c) h in
     let e = q.moved in
     let f = g.each c xs q.rest in
     let l = length-append x (join xs) in
     omega arith
 
-pub lists-on : (n : ℕ) → 0 < n → {s : List ℕ} {word start word' start' end : ℕ} →
-    ((c : VersionClass) → NextEntry c row.List ids s word start word' start') → ListsEnd (n - 1) s word' start' end →
+pub lists-on : {n m : ℕ} → n ≡ suc m → {s : List ℕ} {word start word' start' end : ℕ} →
+    ((c : VersionClass) → NextEntry c row.List ids s word start word' start') → ListsEnd m s word' start' end →
     ListsEnd n s word start end
-lists-on n z y g = record { each = on-each n z y g }
+lists-on z y g = record { each = on-each z y g }
 
 pub list-starts : {w n : ℕ} {s : List ℕ} {word start at end next : ℕ} {out out' : List ℕ} →
     ((c : VersionClass) → StartsPut c row.List ids w n s word start at out out' next) → ListsEnd n s word start end →
@@ -254,3 +238,6 @@ table-put {c} {t} x y z =
                 copied-then (copied-put (x.each i e)) (copied-then (copied-put (y.each xs start)) (z.each xs pl fw))));
           };
     }
+
+-- The laws by which the check proves what puts offset tables, and goes from entry to entry.
+pub ruleset tables = (count-put, table-put, entry_next, list-next, sub-zero, ids-le, starts_none, starts_more, starts-skipped, lists-end, lists-on, list-starts)

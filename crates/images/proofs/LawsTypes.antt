@@ -1,5 +1,7 @@
 -- Steps that copy the fields of each kind, one after the other, put a type's entry. Assumes nothing.
-use Rattle.std.proofs.Common.{◌≡◌, ℕ, ◌<◌, true, false, List, [], ◌∷◌, ◌++◌, length, get_or, sym, refl, ap, ◌∙◌, subst, ap₂, inl, inr, mod-eq_of_lt, arith}
+use Rattle.format.proofs.LawsKinds.{kind-plain}
+use Rattle.std.proofs.lemmas.Bool.Decides.{nat_tests}
+use Rattle.std.proofs.Common.{◌≡◌, ℕ, ◌%◌, Bool, cond, nat_eq, ◌<◌, true, false, List, [], ◌∷◌, ◌++◌, length, get_or, sym, refl, ap, ◌∙◌, subst, ap₂, inl, inr, mod-eq_of_lt, arith}
 use mathlib.Core.Bool.{false≢true}
 use native.Mathlib.Decide.{ℕ_discrete}
 use Rattle.exact.specs.Choice.{choose}
@@ -9,7 +11,7 @@ use Rattle.enums.specs.declared.VersionClass.{VersionClass}
 use Rattle.enums.specs.Types.{tag_pointer, tag_tile, tag_tensor_view, tag_partition_view, tag_func, tag_gather_scatter_view, tag_strided_view}
 use Rattle.enums.specs.Version.{since13_3}
 use Rattle.encoding.specs.Varint.{spelling}
-use Rattle.encoding.specs.Out.{flat, counted_bytes}
+use Rattle.encoding.specs.Out.{Tells, flat, counted_bytes}
 use Rattle.format.specs.Tables.{TypeRow, plain, pointer, tile, tensor_view, partition_view, gather_scatter_view, strided_view, function}
 use Rattle.format.specs.Types.{plain_tags, among}
 use Rattle.format.specs.Kinds.{kind_of, a_plain}
@@ -20,7 +22,7 @@ use Rattle.format.specs.Tests.{bit0?, since3?}
 use Rattle.format.specs.Image.{varints, counted_varints, only_where, optional_byte, partition_bytes, type_bytes}
 use Rattle.sheet.specs.Store.{words_in}
 use Rattle.images.specs.Put.{Wrote}
-use Rattle.images.specs.Fields.{bytes_as, many_as, Copied, NumberCopied, ListCopied}
+use Rattle.images.specs.Fields.{bytes_as, many_as, Copied, NumberCopied, NumberCopiedWhere, WordsSkipped, ListCopied}
 use Rattle.images.specs.Types.{
   PointerCopied,
   TileCopied,
@@ -35,15 +37,24 @@ use Rattle.images.specs.Types.{
   TypeCopied,
 }
 use Rattle.images.specs.declared.fields.Number.{Number}
-use Rattle.images.specs.declared.fields.Number.TheVariants.{Varint, Byte, I32, I64, Absent}
+use Rattle.images.specs.declared.fields.Number.TheVariants.{Varint, Byte, I32, I64}
 use Rattle.images.specs.declared.fields.Pen.{Pen}
 use Rattle.sheet.proofs.LawsLies.{lies-first}
-use Rattle.images.proofs.LawsFields.{copied-then, copied-knowing, copied-as, copied-put}
+use Rattle.images.proofs.LawsFields.{copied-then, copied-knowing, copied-as, copied-put, skipped-one}
 
-where-bytes : {Q : Type 0} (d : Dec Q) (k : Number) (v : ℕ) → bytes_as (choose d k Absent) v ≡ only_where d (bytes_as k v)
-unfolding choose only_where bytes_as
-where-bytes (yes h) k v = refl
-where-bytes (no h) k v = refl
+where-bytes : {Q : Type 0} (d : Dec Q) {b : Bool} → Tells Q b → (bs : List ℕ) → cond b bs [] ≡ only_where d bs
+unfolding choose only_where
+where-bytes (yes h) {b = true} t bs = refl
+where-bytes (yes h) {b = false} t bs = absurd (t.fails refl h)
+where-bytes (no h) {b = true} t bs = absurd (h (t.holds refl))
+where-bytes (no h) {b = false} t bs = refl
+
+-- What a test of the version class, of the flags, or of the presence tells.
+pub tells_same : {b a : Bool} → b ≡ a → Tells (a ≡ true) b
+tells_same e = record { holds = λ h. sym e ∙ h; fails = λ h i. false≢true (sym h ∙ e ∙ i) }
+
+pub tells-equal : (n m : ℕ) → Tells (n ≡ m) (nat_eq n m)
+tells-equal n m = record { holds = λ e. grind (arith, nat_tests); fails = λ e h. grind (arith, nat_tests) }
 
 -- A byte is itself.
 pub byte-as : (v : ℕ) → v < 256 → bytes_as Byte v ≡ v ∷ []
@@ -51,25 +62,25 @@ unfolding bytes_as bytes_of
 byte-as v h = ap (λ b. b ∷ []) (mod-eq_of_lt h)
 
 -- A number that is there only where the question holds.
-pub where-copied : {Q : Type 0} (d : Dec Q) (k : Number) {r : Number} {s : List ℕ} {p q : Pen} {out out' : List ℕ} →
-    r ≡ choose d k Absent → NumberCopied r s p out out' q → (pool : List ℕ) (v : ℕ) →
+pub where-copied : {Q : Type 0} (d : Dec Q) {b : Bool} → Tells Q b → {k : Number} {s : List ℕ} {p q : Pen} {out out' : List ℕ} →
+    NumberCopiedWhere b k s p out out' q → (pool : List ℕ) (v : ℕ) →
     Copied (v ∷ []) [] (only_where d (bytes_as k v)) s pool p out out' q
-where-copied d k e x pool v = copied-as (ap (λ r. bytes_as r v) e ∙ where-bytes d k v) (x.each pool v)
+where-copied d t {k} x pool v = copied-as (where-bytes d t (bytes_as k v)) (x.each pool v)
 
-pub varint-where : {Q : Type 0} (d : Dec Q) {r : Number} {s : List ℕ} {p q : Pen} {out out' : List ℕ} →
-    r ≡ choose d Varint Absent → NumberCopied r s p out out' q → (pool : List ℕ) (v : ℕ) →
+pub varint-where : {Q : Type 0} (d : Dec Q) {b : Bool} → Tells Q b → {s : List ℕ} {p q : Pen} {out out' : List ℕ} →
+    NumberCopiedWhere b Varint s p out out' q → (pool : List ℕ) (v : ℕ) →
     Copied (v ∷ []) [] (only_where d (spelling v)) s pool p out out' q
 unfolding bytes_as
-varint-where d e x pool v = where-copied d Varint e x pool v
+varint-where d t x pool v = where-copied d t x pool v
 
 -- An optional byte, by the flags that were read.
-pub optional-copied : {r : Number} {s : List ℕ} {p q : Pen} {out out' : List ℕ} (bits flags : ℕ) → bits ≡ flags →
-    r ≡ choose (bit0? bits) Byte Absent → NumberCopied r s p out out' q → (pool : List ℕ) (v : ℕ) → v < 256 →
+pub optional-copied : {b : Bool} {s : List ℕ} {p q : Pen} {out out' : List ℕ} (bits flags : ℕ) → bits ≡ flags →
+    Tells (bits % 2 ≡ 1) b → NumberCopiedWhere b Byte s p out out' q → (pool : List ℕ) (v : ℕ) → v < 256 →
     Copied (v ∷ []) [] (optional_byte flags v) s pool p out out' q
 unfolding optional_byte
-optional-copied bits flags i e x pool v h =
+optional-copied {b} bits flags i t x pool v h =
     copied-as (ap (only_where (bit0? flags)) (byte-as v h))
-    (where-copied (bit0? flags) Byte (e ∙ ap (λ b. choose (bit0? b) Byte Absent) i) x pool v)
+    (where-copied (bit0? flags) (subst (λ n. Tells (n % 2 ≡ 1) b) i t) x pool v)
 
 -- Numbers of a fixed width, one behind the other.
 many-flat : (k : Number) (w : ℕ) → ((v : ℕ) → bytes_as k v ≡ bytes_of w v) → (vs : List ℕ) → many_as k vs ≡ flat w vs
@@ -106,12 +117,6 @@ module _ {s : List ℕ} {p q : Pen} {out out' : List ℕ} where
   unfolding counted_varints
   indices x pool vs = rw (← many-varints vs) (x.each pool vs)
 
--- A word that is not put.
-pub absent-copied : {s : List ℕ} {p q : Pen} {out out' : List ℕ} → NumberCopied Absent s p out out' q → (pool : List ℕ) (v : ℕ) →
-    Copied (v ∷ []) [] [] s pool p out out' q
-unfolding bytes_as
-absent-copied x pool v = x.each pool v
-
 -- The presence as a byte, and what is there only if it is 1.
 pub presence-put : {s pool : List ℕ} {p : Pen} {out out' : List ℕ} {next : ℕ} (bits flags : ℕ) → bits ≡ flags → flags < 2 →
     Wrote (bytes_as Byte bits) p.at out out' next →
@@ -120,11 +125,11 @@ presence-put bits flags i h x =
     let k : flags < 256 = omega arith in
     copied-as (ap (bytes_as Byte) i ∙ byte-as flags k) (copied-put x)
 
-pub present-copied : {r : Number} {s : List ℕ} {p q : Pen} {out out' : List ℕ} (bits flags : ℕ) → bits ≡ flags →
-    r ≡ choose (ℕ_discrete bits 1) Varint Absent → NumberCopied r s p out out' q → (pool : List ℕ) (v : ℕ) →
+pub present-copied : {s : List ℕ} {p q : Pen} {out out' : List ℕ} (bits flags : ℕ) → bits ≡ flags →
+    NumberCopiedWhere (nat_eq bits 1) Varint s p out out' q → (pool : List ℕ) (v : ℕ) →
     Copied (v ∷ []) [] (only_where (ℕ_discrete flags 1) (spelling v)) s pool p out out' q
-present-copied bits flags i e x pool v =
-    varint-where (ℕ_discrete flags 1) (e ∙ ap (λ b. choose (ℕ_discrete b 1) Varint Absent) i) x pool v
+present-copied bits flags i x pool v =
+    varint-where (ℕ_discrete flags 1) (subst (λ n. Tells (n ≡ 1) (nat_eq bits 1)) i (tells-equal bits 1)) x pool v
 
 module _ {s : List ℕ} {p q : Pen} {out out' : List ℕ} where
   -- A partition view, by the version class.
@@ -202,11 +207,14 @@ module _ (c : VersionClass) {s : List ℕ} {p q : Pen} (r : Pen) {out mid : List
       copied-then (varint-copied x pool tag_func) (f.each pool inputs results))
 
 -- The count, which is the sheet's alone, and the entry.
-pub type-copied : (c : VersionClass) {s : List ℕ} {o p q : Pen} (r : Pen) {start out mid : List ℕ} (out' : List ℕ) {tag : ℕ} →
-    NumberCopied Absent s o start out p → tag ≡ get_or (words_in s) p.word 0 → NumberCopied Varint s p out mid q →
-    FieldsCopied c (kind_of tag) s q mid out' r → TypeCopied c s o start out' r
+pub type-copied : (c : VersionClass) {s : List ℕ} {o p q : Pen} (r : Pen) {out mid : List ℕ} (out' : List ℕ) {tag : ℕ} →
+    WordsSkipped 1 o p → tag ≡ get_or (words_in s) p.word 0 → NumberCopied Varint s p out mid q →
+    FieldsCopied c (kind_of tag) s q mid out' r → TypeCopied c s o out out' r
 unfolding type_words
 type-copied c r out' w e x y =
     record {
-      each = λ pool row h. copied-then (absent-copied w pool (length (field_words row))) (row_copied c r out' e x y pool row h);
+      each = λ pool row h. copied-then (skipped-one w _ pool _ (length (field_words row))) (row_copied c r out' e x y pool row h);
     }
+
+-- The laws by which the check proves what goes by the kind of a type.
+pub ruleset types = (type-copied, partition-old, partition-new, kind-plain)

@@ -1,6 +1,6 @@
 -- What the steps that copy words of the sheet and runs of the pool into the output answer and leave there (document 01,
 -- "The sheet" and "The container").
-use Rattle.std.specs.Prelude.{◌≡◌, ℕ, ◌+◌, ◌^◌, ◌<◌, List, [], ◌∷◌, ◌++◌, map, length}
+use Rattle.std.specs.Prelude.{◌≡◌, ℕ, ◌+◌, ◌^◌, ◌<◌, Bool, cond, List, [], ◌∷◌, ◌++◌, map, length}
 use Rattle.exact.specs.Fixed.{bytes_of}
 use Rattle.exact.specs.Tiling.{join}
 use Rattle.encoding.specs.Varint.{spelling}
@@ -9,7 +9,7 @@ use Rattle.sheet.specs.Store.{words_in}
 use Rattle.sheet.specs.Lies.{Lies}
 use Rattle.images.specs.Put.{Puts, Lent}
 use Rattle.images.specs.declared.fields.Number.{Number}
-use Rattle.images.specs.declared.fields.Number.TheVariants.{Varint, Byte, I32, I64, Absent}
+use Rattle.images.specs.declared.fields.Number.TheVariants.{Varint, Byte, I32, I64}
 use Rattle.images.specs.declared.fields.Pen.{Pen}
 
 -- The bytes of a number, by how it stands in the file.
@@ -18,7 +18,6 @@ bytes_as Varint v = spelling v
 bytes_as Byte v = bytes_of 1 v
 bytes_as I32 v = bytes_of 4 v
 bytes_as I64 v = bytes_of 8 v
-bytes_as Absent v = []
 
 -- Those of numbers, one behind the other.
 unfoldable pub many_as : Number → List ℕ → List ℕ
@@ -46,9 +45,17 @@ pub record Copied (ws run bs s pool : List ℕ) (p : Pen) (out out' : List ℕ) 
 pub record NumberCopied (k : Number) (s : List ℕ) (p : Pen) (out out' : List ℕ) (q : Pen) : Type 0 where
   pub each : (pool : List ℕ) (v : ℕ) → Copied (v ∷ []) [] (bytes_as k v) s pool p out out' q
 
+-- .. or it was where a test holds, and passed over elsewhere, ..
+pub record NumberCopiedWhere (b : Bool) (k : Number) (s : List ℕ) (p : Pen) (out out' : List ℕ) (q : Pen) : Type 0 where
+  pub each : (pool : List ℕ) (v : ℕ) → Copied (v ∷ []) [] (cond b (bytes_as k v) []) s pool p out out' q
+
 -- .. the next n words ..
 pub record NumbersCopied (k : Number) (n : ℕ) (s : List ℕ) (p : Pen) (out out' : List ℕ) (q : Pen) : Type 0 where
   pub each : (pool vs : List ℕ) → length vs ≡ n → Copied vs [] (many_as k vs) s pool p out out' q
+
+-- .. or were passed over, whatever is lent ..
+pub record WordsSkipped (n : ℕ) (p q : Pen) : Type 0 where
+  pub each : (s pool vs out : List ℕ) → length vs ≡ n → Copied vs [] [] s pool p out out q
 
 -- .. or a count and as many words.
 pub record ListCopied (k : Number) (s : List ℕ) (p : Pen) (out out' : List ℕ) (q : Pen) : Type 0 where

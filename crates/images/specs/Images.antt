@@ -1,7 +1,7 @@
 -- What the writers of whole sections and of the image answer and leave in the output (document 01, "The sheet", the
 -- paragraph "Writer").
-use Rattle.std.specs.Prelude.{◌≡◌, ℕ, zero, suc, ◌^◌, ◌<◌, Bool, true, false, cond, List, [], length}
-use Rattle.std.proofs.Math.Option.{Option, none, some}
+use Rattle.std.specs.Prelude.{◌≡◌, ℕ, zero, suc, ◌^◌, ◌<◌, Bool, true, false, cond, List, [], length, Option, Some, None}
+use Rattle.std.proofs.Math.Option as maybe
 use Rattle.enums.specs.declared.VersionClass.{VersionClass}
 use Rattle.format.specs.Tables.{Tables}
 use Rattle.format.specs.Sheet.{sheet_of, pool_of}
@@ -12,17 +12,17 @@ use Rattle.images.specs.Put.{Puts, Wrote, Lent}
 use Rattle.images.specs.Fields.{Copied}
 use Rattle.images.specs.Sections.{Holds, part_in, runs_in}
 use Rattle.images.specs.declared.fields.Pen.{Pen}
-use Rattle.images.specs.declared.sections.Section.{Section}
+use Rattle.enums.specs.declared.Section.{Section}
 
 -- Whether a number is not 0.
 unfoldable pub is_some : ℕ → Bool
 is_some zero = false
 is_some (suc n) = true
 
--- An alignment, of which 0 is none.
-unfoldable pub alignment_of : ℕ → Option ℕ
-alignment_of zero = none
-alignment_of (suc n) = some (suc n)
+-- An alignment, if there is one.
+abbrev pub alignment_of : Option ℕ → maybe.Option ℕ
+alignment_of None = maybe.none
+alignment_of (Some n) = maybe.some n
 
 -- Whatever tables the sheet stands for: whether a section is written, ..
 pub record Presence (k : Section) (s : List ℕ) (r : Bool) : Type 0 where
@@ -33,11 +33,11 @@ pub record Opens (k : Section) (r : ℕ) : Type 0 where
   pub each : (t : Tables) → r ≡ first_byte (part_in k t).id (part_in k t).alignment
 
 -- .. its alignment, ..
-pub record Aligned (k : Section) (r : ℕ) : Type 0 where
+pub record Aligned (k : Section) (r : Option ℕ) : Type 0 where
   pub each : (t : Tables) → alignment_of r ≡ (part_in k t).alignment
 
 -- .. which is put with its padding, ..
-abbrev pub AlignmentPut : ℕ → ℕ → List ℕ → List ℕ → ℕ → Type 0
+abbrev pub AlignmentPut : Option ℕ → ℕ → List ℕ → List ℕ → ℕ → Type 0
 AlignmentPut a at = Wrote (alignment_bytes (alignment_of a) at) at
 
 -- .. the section, which has no bytes if it is not written, ..

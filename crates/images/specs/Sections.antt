@@ -10,8 +10,8 @@ use Rattle.format.specs.Image.{padded_numbers, Part, string_part, producer_part,
 use Rattle.sheet.specs.Store.{words_in}
 use Rattle.images.specs.Fields.{Copied}
 use Rattle.images.specs.declared.fields.Pen.{Pen}
-use Rattle.images.specs.declared.sections.Section.{Section}
-use Rattle.images.specs.declared.sections.Section.TheVariants as section
+use Rattle.enums.specs.declared.Section.{Section}
+use Rattle.enums.specs.declared.Section.TheVariants as section
 
 -- The sheet is that of the tables t, which are well-formed, of version class c. A lent sheet has fewer than 2^63 bytes.
 pub record Holds (c : VersionClass) (t : Tables) (s : List ℕ) : Type 0 where

@@ -1,4 +1,6 @@
 // The image: the header, the sections that are written, and the end id.
+#![tactic(auto, using(crate::proofs::LawsImage::containers))]
+
 ghost use Rattle.std.specs.Prelude.{◌≡◌, [], slice_index};
 ghost use Rattle.enums.specs.Container.{magic};
 ghost use Rattle.sheet.specs.Store.{words_in};
@@ -8,18 +10,16 @@ ghost use Rattle.images.specs.Images.{is_some, Presence, Opens, Aligned, Alignme
 
 use crate::fields::Pen;
 use crate::put::{put_byte, put_le, put_varint};
-use crate::sections::{Section, put_payload};
+use crate::sections::put_payload;
+use crate::source::Source;
 use crate::tables::put_count;
-use enums::VersionClass;
+use enums::Section;
 
 // Whether a word of the sheet is not 0.
 fn is_some(sheet: &[u8], word: usize) -> bool
     ensures { result ≡ is_some (slice_index (words_in sheet.now) word) }
 {
-    if 0 < sheet::word_at(sheet, word) {
-        return true;
-    }
-    false
+    sheet::word_at(sheet, word) != 0
 }
 
 // Whether a section is written: nonempty tables only; Debug if either of its tables has rows; Producer if named.
@@ -33,134 +33,83 @@ fn is_present(sheet: &[u8], section: Section) -> bool
         Section::Constant => is_some(sheet, 10),
         Section::Global => is_some(sheet, 12),
         Section::Func => is_some(sheet, 14),
-        Section::Debug => {
-            if is_some(sheet, 18) {
-                return true;
-            }
-            is_some(sheet, 16)
-        }
+        Section::Debug => is_some(sheet, 18) || is_some(sheet, 16),
+    }
+}
+
+// The alignment of a section that has one.
+#[tactic(auto, unfolding(crate::specs::Sections::part_in, format::specs::Image::string_part, format::specs::Image::producer_part, format::specs::Image::type_part, format::specs::Image::constant_part, format::specs::Image::global_part, format::specs::Image::function_part, format::specs::Image::debug_part))]
+fn alignment_of(section: Section) -> Option<usize>
+    ensures { Aligned section result }
+{
+    match section {
+        Section::String | Section::Type => Some(4),
+        Section::Constant | Section::Debug => Some(8),
+        Section::Producer | Section::Global | Section::Func => None,
     }
 }
 
 // The id, with the top bit if there is an alignment.
+#[tactic(auto, unfolding(crate::specs::Sections::part_in, format::specs::Image::first_byte, format::specs::Image::string_part, format::specs::Image::producer_part, format::specs::Image::type_part, format::specs::Image::constant_part, format::specs::Image::global_part, format::specs::Image::function_part, format::specs::Image::debug_part))]
 fn first_byte(section: Section) -> u8
     ensures { Opens section result }
 {
-    match section {
-        Section::String => enums::Section::STRING + 0x80,
-        Section::Producer => enums::Section::PRODUCER,
-        Section::Type => enums::Section::TYPE + 0x80,
-        Section::Constant => enums::Section::CONSTANT + 0x80,
-        Section::Global => enums::Section::GLOBAL,
-        Section::Func => enums::Section::FUNC,
-        Section::Debug => enums::Section::DEBUG + 0x80,
+    match alignment_of(section) {
+        Some(_) => section.id() + 0x80,
+        None => section.id(),
     }
 }
 
-// The alignment of a section; 0 where it has none.
-fn alignment_of(section: Section) -> usize
-    ensures { Aligned section result }
-{
-    match section {
-        Section::String => 4,
-        Section::Producer => 0,
-        Section::Type => 4,
-        Section::Constant => 8,
-        Section::Global => 0,
-        Section::Func => 0,
-        Section::Debug => 8,
-    }
-}
-
-// The alignment and the padding, which counts from the file's start, of a section that has one.
-fn put_alignment(out: &mut [u8], at: usize, alignment: usize) -> usize
+// The alignment, if there is one, and the padding, which counts from the file's start.
+fn put_alignment(out: &mut [u8], at: usize, alignment: Option<usize>) -> usize
     ensures { AlignmentPut alignment at out.old out.new result }
 {
-    if alignment == 0 {
-        return at;
+    match alignment {
+        Some(alignment) => put_count(out, 0, at, alignment as u64, alignment),
+        None => at,
     }
-    put_count(out, 0, at, alignment as u64, alignment)
 }
 
 // How far a payload takes the pen from place 0, without its bytes: its length, and where the pool goes on.
-fn measure_payload(
-    sheet: &[u8],
-    pool: &[u8],
-    class: VersionClass,
-    section: Section,
-    out: &mut [u8],
-    pen: Pen,
-) -> Pen
-    ensures payload_put { PayloadPut section «class» sheet.now pool.now (record { word = pen.word; run = pen.run; at = 0 }) [] [] result }
-    ensures out_unchanged { out.new ≡ out.old }
+fn measure_payload(source: &Source, section: Section, pen: Pen) -> Pen
+    ensures { PayloadPut section source.now.class source.now.sheet.now source.now.pool.now (record { word = pen.word; run = pen.run; at = 0 }) [] [] result }
 {
-    let begin = Pen {
-        word: pen.word,
-        run: pen.run,
-        at: 0,
-    };
-    put_payload(sheet, pool, class, section, &mut out[0..0], begin)
+    put_payload(source, section, &mut [], Pen { at: 0, ..pen })
 }
 
 // A payload that was measured. Into an output of no bytes it is not put once more.
-fn put_measured(
-    sheet: &[u8],
-    pool: &[u8],
-    class: VersionClass,
-    section: Section,
-    measured: Pen,
-    out: &mut [u8],
-    pen: Pen,
-) -> Pen
-    requires { PayloadPut section «class» sheet.now pool.now (record { word = pen.word; run = pen.run; at = 0 }) [] [] measured }
-    ensures { PayloadPut section «class» sheet.now pool.now pen out.old out.new result }
+fn put_measured(source: &Source, section: Section, measured: Pen, out: &mut [u8], pen: Pen) -> Pen
+    requires { PayloadPut section source.now.class source.now.sheet.now source.now.pool.now (record { word = pen.word; run = pen.run; at = 0 }) [] [] measured }
+    ensures { PayloadPut section source.now.class source.now.sheet.now source.now.pool.now pen out.old out.new result }
 {
-    if out.len() == 0 {
+    if out.is_empty() {
         return Pen {
-            word: measured.word,
-            run: measured.run,
-            at: std::num::wrapping_add_usize(pen.at, measured.at),
+            at: pen.at.wrapping_add(measured.at),
+            ..measured
         };
     }
-    put_payload(sheet, pool, class, section, out, pen)
+    put_payload(source, section, out, pen)
 }
 
 // A section, if it is written. Its payload is measured first, since its length stands before it.
-fn put_section(
-    sheet: &[u8],
-    pool: &[u8],
-    class: VersionClass,
-    section: Section,
-    out: &mut [u8],
-    pen: Pen,
-) -> Pen
-    ensures { SectionPut section «class» sheet.now pool.now pen out.old out.new result }
+fn put_section(source: &Source, section: Section, out: &mut [u8], pen: Pen) -> Pen
+    ensures { SectionPut section source.now.class source.now.sheet.now source.now.pool.now pen out.old out.new result }
 {
-    if !is_present(sheet, section) {
+    if !is_present(source.sheet, section) {
         return pen;
     }
-    let measured = measure_payload(sheet, pool, class, section, out, pen);
+    let measured = measure_payload(source, section, pen);
     let first = put_byte(out, pen.at, first_byte(section));
     let length = put_varint(out, first, measured.at as u64);
-    let begin = Pen {
-        word: pen.word,
-        run: pen.run,
-        at: put_alignment(out, length, alignment_of(section)),
-    };
-    put_measured(sheet, pool, class, section, measured, out, begin)
+    let begin = put_alignment(out, length, alignment_of(section));
+    put_measured(source, section, measured, out, Pen { at: begin, ..pen })
 }
 
 fn put_magic(out: &mut [u8]) -> usize
     ensures { Wrote magic 0 out.old out.new result }
 {
-    let magic = enums::magic();
-    let mut next = 0;
-    let mut i = 0;
-    while i < 8 {
-        next = put_byte(out, next, magic[i]);
-        i += 1;
-    }
-    next
+    sheet::put_run(out, 0, &enums::magic());
+    8
 }
 
 // MAGIC, major, minor, tag.
@@ -175,20 +124,20 @@ fn put_header(sheet: &[u8], out: &mut [u8]) -> usize
 
 // The image of a sheet that was judged, and of its pool; into an output of no bytes, only its length, for which the
 // pool may be left out.
-pub fn put_image(sheet: &[u8], pool: &[u8], class: VersionClass, out: &mut [u8]) -> usize
-    ensures { ImagePut «class» sheet.now pool.now out.old out.new result }
+pub fn put_image(source: &Source, out: &mut [u8]) -> usize
+    ensures { ImagePut source.now.class source.now.sheet.now source.now.pool.now out.old out.new result }
 {
     let header = Pen {
         word: 0,
         run: 0,
-        at: put_header(sheet, out),
+        at: put_header(source.sheet, out),
     };
-    let strings = put_section(sheet, pool, class, Section::String, out, header);
-    let producer = put_section(sheet, pool, class, Section::Producer, out, strings);
-    let types = put_section(sheet, pool, class, Section::Type, out, producer);
-    let constants = put_section(sheet, pool, class, Section::Constant, out, types);
-    let globals = put_section(sheet, pool, class, Section::Global, out, constants);
-    let functions = put_section(sheet, pool, class, Section::Func, out, globals);
-    let debug = put_section(sheet, pool, class, Section::Debug, out, functions);
-    put_byte(out, debug.at, enums::Section::END_OF_BYTECODE)
+    let strings = put_section(source, Section::String, out, header);
+    let producer = put_section(source, Section::Producer, out, strings);
+    let types = put_section(source, Section::Type, out, producer);
+    let constants = put_section(source, Section::Constant, out, types);
+    let globals = put_section(source, Section::Global, out, constants);
+    let functions = put_section(source, Section::Func, out, globals);
+    let debug = put_section(source, Section::Debug, out, functions);
+    put_byte(out, debug.at, Section::END_OF_BYTECODE)
 }

@@ -1,15 +1,12 @@
 // Words of the sheet copied into the output as numbers, one after the other. Each step takes the pen that the step
 // before it handed back.
-ghost use Rattle.std.specs.Prelude.{◌≡◌};
-ghost use Rattle.std.proofs.Math.Decide.{ℕ_discrete};
-ghost use Rattle.exact.specs.Choice.{choose};
-ghost use Rattle.format.specs.Tests.{bit0?, since3?, since4?};
-ghost use Rattle.images.specs.declared.fields.Number.TheVariants as kinds;
-ghost use Rattle.images.specs.Put.{Wrote};
-ghost use Rattle.images.specs.Fields.{bytes_as, NumberCopied, NumbersCopied, ListCopied};
+#![tactic(auto, using(crate::proofs::LawsFields::fields), unfolding(crate::specs::Fields::bytes_as))]
 
-use crate::put::{put_le, put_varint};
-use enums::VersionClass;
+ghost use Rattle.std.specs.Prelude.{◌≡◌};
+ghost use Rattle.images.specs.Put.{Wrote};
+ghost use Rattle.images.specs.Fields.{bytes_as, NumberCopied, NumberCopiedWhere, NumbersCopied, WordsSkipped, ListCopied};
+
+use crate::put::{put_le, put_u64, put_varint};
 
 // How far the writer is: the next word of the sheet, the next byte of the pool, the next place of the output.
 #[derive(Clone, Copy)]
@@ -26,7 +23,6 @@ pub enum Number {
     Byte,
     I32,
     I64,
-    Absent,
 }
 
 pub fn put_number(out: &mut [u8], at: usize, number: Number, v: u64) -> usize
@@ -36,82 +32,59 @@ pub fn put_number(out: &mut [u8], at: usize, number: Number, v: u64) -> usize
         Number::Varint => put_varint(out, at, v),
         Number::Byte => put_le(out, at, v, 1),
         Number::I32 => put_le(out, at, v, 4),
-        Number::I64 => put_le(out, at, v, 8),
-        Number::Absent => at,
+        Number::I64 => put_u64(out, at, v),
     }
 }
 
-// The number, where bit 0 of the flags is set.
-pub fn if_bit0(flags: u64, number: Number) -> Number
-    ensures { result ≡ choose (bit0? flags) number kinds.Absent }
-{
-    if flags % 2 == 1 {
-        number
-    } else {
-        Number::Absent
-    }
-}
-
-// The number, where the presence is 1.
-pub fn if_present(presence: u64, number: Number) -> Number
-    ensures { result ≡ choose (ℕ_discrete presence 1) number kinds.Absent }
-{
-    if presence == 1 {
-        number
-    } else {
-        Number::Absent
-    }
-}
-
-// The number, from 13.3 on.
-pub fn since_13_3(class: VersionClass, number: Number) -> Number
-    ensures { result ≡ choose (since3? «class») number kinds.Absent }
-{
-    if class.from_13_3() {
-        number
-    } else {
-        Number::Absent
-    }
-}
-
-// The number, from 13.4 on.
-pub fn since_13_4(class: VersionClass, number: Number) -> Number
-    ensures { result ≡ choose (since4? «class») number kinds.Absent }
-{
-    if class.from_13_4() {
-        number
-    } else {
-        Number::Absent
-    }
-}
-
-// Copies the next word.
+// Copies the next word. This and the copies of more words are to be inlined: a caller writes down how its number stands
+// in the file, and then no copy asks for it.
+#[inline]
 pub fn copy_number(sheet: &[u8], number: Number, out: &mut [u8], pen: Pen) -> Pen
     ensures { NumberCopied number sheet.now pen out.old out.new result }
 {
-    let v = sheet::word_at(sheet, pen.word);
-    let next = put_number(out, pen.at, number, v);
+    let next = put_number(out, pen.at, number, sheet::word_at(sheet, pen.word));
     Pen {
-        word: std::num::wrapping_add_usize(pen.word, 1),
-        run: pen.run,
+        word: pen.word.wrapping_add(1),
         at: next,
+        ..pen
+    }
+}
+
+// Passes over the next `count` words, which are the sheet's alone.
+pub fn skip_words(pen: Pen, count: usize) -> Pen
+    ensures { WordsSkipped count pen result }
+{
+    Pen {
+        word: pen.word.wrapping_add(count),
+        ..pen
+    }
+}
+
+// Copies the next word where a test holds, and passes over it elsewhere.
+pub fn copy_where(sheet: &[u8], test: bool, number: Number, out: &mut [u8], pen: Pen) -> Pen
+    ensures { NumberCopiedWhere test number sheet.now pen out.old out.new result }
+{
+    if test {
+        copy_number(sheet, number, out, pen)
+    } else {
+        skip_words(pen, 1)
     }
 }
 
 // Copies the next `count` words.
+#[inline]
 pub fn copy_numbers(sheet: &[u8], number: Number, count: u64, out: &mut [u8], pen: Pen) -> Pen
     ensures { NumbersCopied number count sheet.now pen out.old out.new result }
 {
     let mut next = pen;
-    let mut left = count;
-    while 0 < left {
+    for _ in 0..count {
         next = copy_number(sheet, number, out, next);
-        left -= 1;
     }
     next
 }
 
 // Copies a count, as a varint, and as many words.
+#[inline]
 pub fn copy_list(sheet: &[u8], number: Number, out: &mut [u8], pen: Pen) -> Pen
     ensures { ListCopied number sheet.now pen out.old out.new result }
 {

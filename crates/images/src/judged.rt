@@ -1,9 +1,10 @@
 // Writing a judged sheet: every refusal but the judge's is found, and the image is put only if it has room.
-ghost use Rattle.std.specs.Prelude.{◌≡◌};
+#![tactic(auto, using(crate::proofs::LawsJudged::writings))]
+
 ghost use Rattle.images.specs.Written.{ImageTold, JudgedWritten};
 
-use crate::Imaged;
 use crate::container::put_image;
+use crate::source::Source;
 use crate::starts::starts_fit;
 use enums::Refusal;
 use judge::Judged;
@@ -16,36 +17,45 @@ const MOST_POOL: u64 = 0xC000_0000;
 
 // How long the image of a judged sheet is: 1 where it is over its limit, but 13 where a start does not fit. All starts
 // fit in an image within the limit.
-pub fn image_length(sheet: &[u8], judged: Judged, pool: &[u8], out: &mut [u8]) -> Imaged
-    ensures image_told { ImageTold sheet.now judged result }
-    ensures out_unchanged { out.new ≡ out.old }
+pub fn image_length(sheet: &[u8], judged: Judged, pool: &[u8]) -> Result<usize, Refusal>
+    ensures { ImageTold sheet.now judged result }
 {
-    let class = judged.class;
+    let source = Source {
+        sheet,
+        pool,
+        class: judged.class,
+    };
     if judged.pool <= MOST_POOL {
-        let size = put_image(sheet, pool, class, &mut out[0..0]);
+        let size = put_image(&source, &mut []);
         if size <= MOST_BYTES {
-            return Imaged::Bytes(size);
+            return Ok(size);
         }
     }
-    if starts_fit(sheet, pool, class, out) {
-        return Imaged::Refused(Refusal::LIMIT);
+    if starts_fit(&source) {
+        Err(Refusal::Limit)
+    } else {
+        Err(Refusal::Start)
     }
-    Imaged::Refused(Refusal::START)
 }
 
 // Writes the image of a judged sheet and its pool: 11 where the output is smaller.
-pub fn write_judged(sheet: &[u8], judged: Judged, pool: &[u8], out: &mut [u8]) -> Imaged
+pub fn write_judged(
+    sheet: &[u8],
+    judged: Judged,
+    pool: &[u8],
+    out: &mut [u8],
+) -> Result<usize, Refusal>
     ensures { JudgedWritten sheet.now judged pool.now out.old out.new result }
 {
-    match image_length(sheet, judged, pool, out) {
-        Imaged::Refused(n) => Imaged::Refused(n),
-        Imaged::Bytes(size) => {
-            if out.len() < size {
-                return Imaged::Refused(Refusal::FULL);
-            }
-            let class = judged.class;
-            put_image(sheet, pool, class, out);
-            Imaged::Bytes(size)
-        }
+    let size = image_length(sheet, judged, pool)?;
+    if out.len() < size {
+        return Err(Refusal::Full);
     }
+    let source = Source {
+        sheet,
+        pool,
+        class: judged.class,
+    };
+    put_image(&source, out);
+    Ok(size)
 }

@@ -8,6 +8,7 @@ mod judged;
 mod put;
 mod rows;
 mod sections;
+mod source;
 mod starts;
 mod tables;
 mod types;
@@ -19,41 +20,24 @@ ghost use Rattle.judge.specs.Judge.{judged_bytes};
 ghost use Rattle.images.specs.Written.{image_size, length_of, in_room, with_image};
 
 use enums::Refusal;
-use judge::SheetJudged;
-
-// The length of the image, or a refusal's number; all writing is stage 10.
-#[derive(Clone, Copy)]
-pub enum Imaged {
-    Bytes(usize),
-    Refused(u8),
-}
 
 // The length of the image of a handed sheet. Lent no pool, so that word 4 is compared with the row sum only.
-pub fn image(sheet: &[u8]) -> Imaged
+#[tactic(auto, using(crate::proofs::LawsHanded::handed))]
+pub fn image(sheet: &[u8]) -> Result<usize, Refusal>
     ensures { image_size result ≡ length_of (imaged (blank (judged_bytes sheet.now))) }
 {
-    match judge::judge(sheet) {
-        SheetJudged::Stop => Imaged::Refused(Refusal::SHEET),
-        SheetJudged::Passed(judged) => {
-            let pool: [u8; 0] = [];
-            let mut out: [u8; 0] = [];
-            judged::image_length(sheet, judged, &pool, &mut out)
-        }
-    }
+    let judged = judge::judge(sheet).ok_or(Refusal::Sheet)?;
+    judged::image_length(sheet, judged, &[])
 }
 
 // The image of a handed sheet and its pool. A refused call has written nothing: all is judged and measured before.
-pub fn write(sheet: &[u8], pool: &[u8], out: &mut [u8]) -> Imaged
+pub fn write(sheet: &[u8], pool: &[u8], out: &mut [u8]) -> Result<usize, Refusal>
     ensures result_value { image_size result ≡ in_room (length out.old) (imaged (with_pool pool.now (judged_bytes sheet.now))) }
     ensures out_after { out.new ≡ with_image out.old (imaged (with_pool pool.now (judged_bytes sheet.now))) }
 {
-    match judge::judge(sheet) {
-        SheetJudged::Stop => Imaged::Refused(Refusal::SHEET),
-        SheetJudged::Passed(judged) => {
-            if judged.pool != pool.len() as u64 {
-                return Imaged::Refused(Refusal::SHEET);
-            }
-            judged::write_judged(sheet, judged, pool, out)
-        }
+    let judged = judge::judge(sheet).ok_or(Refusal::Sheet)?;
+    if judged.pool != pool.len() as u64 {
+        return Err(Refusal::Sheet);
     }
+    judged::write_judged(sheet, judged, pool, out)
 }

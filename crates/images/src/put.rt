@@ -1,11 +1,15 @@
 // Bytes put into a lent output, each run where it has room; the next place is answered in any case, so that what fills
 // an output also measures on an empty one. Places are counted modulo 2^64, which no image comes near.
+#![tactic(auto, using(crate::proofs::LawsPut::puts))]
+
 ghost use Rattle.std.specs.Prelude.{◌≡◌, [], ◌∷◌, replicate};
 ghost use Rattle.exact.specs.Fixed.{bytes_of};
 ghost use Rattle.exact.specs.Padding.{gap};
 ghost use Rattle.enums.specs.Container.{P};
 ghost use Rattle.encoding.specs.Varint.{spelling};
 ghost use Rattle.images.specs.Put.{Wrote, RunPut};
+
+use encoding::EncodingWriter;
 
 // Puts a byte.
 pub fn put_byte(out: &mut [u8], at: usize, b: u8) -> usize
@@ -14,7 +18,7 @@ pub fn put_byte(out: &mut [u8], at: usize, b: u8) -> usize
     if at < out.len() {
         out[at] = b;
     }
-    std::num::wrapping_add_usize(at, 1)
+    at.wrapping_add(1)
 }
 
 // Puts a varint, in its shortest spelling. Most values are below 128 and take one byte: they take no loop, whether the
@@ -29,7 +33,7 @@ pub fn put_varint(out: &mut [u8], at: usize, value: u64) -> usize
     let mut next = at;
     while 128 <= rest {
         next = put_byte(out, next, (128 + rest % 128) as u8);
-        rest = rest / 128;
+        rest /= 128;
     }
     put_byte(out, next, rest as u8)
 }
@@ -39,14 +43,24 @@ pub fn put_le(out: &mut [u8], at: usize, value: u64, width: usize) -> usize
     ensures { Wrote (bytes_of width value) at out.old out.new result }
 {
     let mut rest = value;
-    let mut left = width;
     let mut next = at;
-    while 0 < left {
+    for _ in 0..width {
         next = put_byte(out, next, (rest % 256) as u8);
-        rest = rest / 256;
-        left -= 1;
+        rest /= 256;
     }
     next
+}
+
+// Puts a 64-bit number, the lowest byte first. Where it has room it takes one store.
+pub fn put_u64(out: &mut [u8], at: usize, value: u64) -> usize
+    ensures { Wrote (bytes_of 8 value) at out.old out.new result }
+{
+    let writer = EncodingWriter {
+        at,
+        required_alignment: 1,
+    };
+    let _ = writer.write_le_u64(out, value);
+    at.wrapping_add(8)
 }
 
 // How many bytes of padding take a place to a multiple of an alignment.
@@ -63,11 +77,9 @@ fn padding_to(alignment: usize, place: usize) -> usize
 pub fn put_padding(out: &mut [u8], at: usize, alignment: usize, place: usize) -> usize
     ensures { Wrote (replicate (gap alignment place) P) at out.old out.new result }
 {
-    let mut left = padding_to(alignment, place);
     let mut next = at;
-    while 0 < left {
+    for _ in 0..padding_to(alignment, place) {
         next = put_byte(out, next, enums::ALIGNMENT_BYTE);
-        left -= 1;
     }
     next
 }
@@ -76,13 +88,8 @@ pub fn put_padding(out: &mut [u8], at: usize, alignment: usize, place: usize) ->
 pub fn put_pool(pool: &[u8], from: usize, len: usize, out: &mut [u8], at: usize) -> usize
     ensures { RunPut pool.now «from» len at out.old out.new result }
 {
-    let next = std::num::wrapping_add_usize(at, len);
-    if pool.len() < from {
-        return next;
+    if from <= pool.len() && len <= pool.len() - from {
+        sheet::put_run(out, at, &pool[from..from + len]);
     }
-    if pool.len() - from < len {
-        return next;
-    }
-    sheet::put_run(out, at, &pool[from..from + len]);
-    next
+    at.wrapping_add(len)
 }

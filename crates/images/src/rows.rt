@@ -1,12 +1,15 @@
 // The rows of the tables: each becomes its bytes of the file, and the rows of a table stand one behind the other.
+#![tactic(auto, using(crate::proofs::LawsRows::rows), unfolding(crate::specs::Rows::GoodRow, crate::specs::Rows::row_words, crate::specs::Rows::row_run, crate::specs::Rows::row_bytes))]
+
 ghost use Rattle.std.specs.Prelude.{ℕ, List, map};
 ghost use Rattle.exact.specs.Tiling.{join};
 ghost use Rattle.enums.specs.declared.VersionClass.{VersionClass};
 ghost use Rattle.images.specs.declared.rows.Row.TheVariants as kinds;
 ghost use Rattle.images.specs.Rows.{RunTaken, row_bytes, RowCopied, RowsPut};
 
-use crate::fields::{Number, Pen, copy_number, copy_numbers, since_13_3};
+use crate::fields::{Number, Pen, copy_number, copy_numbers, copy_where, skip_words};
 use crate::put::put_pool;
+use crate::source::Source;
 use crate::types::put_type;
 use enums::{DebugTag, VersionClass};
 
@@ -37,9 +40,9 @@ fn take_run(pool: &[u8], len: u64, out: &mut [u8], pen: Pen) -> Pen
 {
     let next = put_pool(pool, pen.run, len as usize, out, pen.at);
     Pen {
-        word: pen.word,
-        run: std::num::wrapping_add_usize(pen.run, len as usize),
+        run: pen.run.wrapping_add(len as usize),
         at: next,
+        ..pen
     }
 }
 
@@ -48,8 +51,7 @@ fn put_run(sheet: &[u8], pool: &[u8], out: &mut [u8], pen: Pen) -> Pen
     ensures { (c : VersionClass) → RowCopied c kinds.Run sheet.now pool.now pen out.old out.new result }
 {
     let len = sheet::word_at(sheet, pen.word);
-    let row = copy_number(sheet, Number::Absent, out, pen);
-    take_run(pool, len, out, row)
+    take_run(pool, len, out, skip_words(pen, 1))
 }
 
 fn put_global(sheet: &[u8], class: VersionClass, out: &mut [u8], pen: Pen) -> Pen
@@ -59,8 +61,8 @@ fn put_global(sheet: &[u8], class: VersionClass, out: &mut [u8], pen: Pen) -> Pe
     let ty = copy_number(sheet, Number::Varint, out, name);
     let constant = copy_number(sheet, Number::Varint, out, ty);
     let alignment = copy_number(sheet, Number::Varint, out, constant);
-    let visibility = copy_number(sheet, since_13_3(class, Number::Byte), out, alignment);
-    copy_number(sheet, since_13_3(class, Number::Varint), out, visibility)
+    let visibility = copy_where(sheet, class.from_13_3(), Number::Byte, out, alignment);
+    copy_where(sheet, class.from_13_3(), Number::Varint, out, visibility)
 }
 
 fn put_function(sheet: &[u8], pool: &[u8], out: &mut [u8], pen: Pen) -> Pen
@@ -81,7 +83,7 @@ fn put_attribute(sheet: &[u8], out: &mut [u8], pen: Pen) -> Pen
     let count = DebugTag::field_count(sheet::word_at(sheet, pen.word));
     let tag = copy_number(sheet, Number::Byte, out, pen);
     let fields = copy_numbers(sheet, Number::Varint, count, out, tag);
-    copy_numbers(sheet, Number::Absent, 6 - count, out, fields)
+    skip_words(fields, (6 - count) as usize)
 }
 
 // A debug list: its count is the sheet's alone.
@@ -89,56 +91,36 @@ fn put_list(sheet: &[u8], out: &mut [u8], pen: Pen) -> Pen
     ensures { (c : VersionClass) (pool : List ℕ) → RowCopied c kinds.List sheet.now pool pen out.old out.new result }
 {
     let count = sheet::word_at(sheet, pen.word);
-    let row = copy_number(sheet, Number::Absent, out, pen);
-    copy_numbers(sheet, Number::I64, count, out, row)
+    copy_numbers(sheet, Number::I64, count, out, skip_words(pen, 1))
 }
 
 // A row, by its kind.
-pub fn put_row(
-    sheet: &[u8],
-    pool: &[u8],
-    class: VersionClass,
-    row: Row,
-    out: &mut [u8],
-    pen: Pen,
-) -> Pen
-    ensures { RowCopied «class» row sheet.now pool.now pen out.old out.new result }
+pub fn put_row(source: &Source, row: Row, out: &mut [u8], pen: Pen) -> Pen
+    ensures { RowCopied source.now.class row source.now.sheet.now source.now.pool.now pen out.old out.new result }
 {
     match row {
-        Row::Run => put_run(sheet, pool, out, pen),
-        Row::Type => put_type(sheet, class, out, pen),
-        Row::Global => put_global(sheet, class, out, pen),
-        Row::Function => put_function(sheet, pool, out, pen),
-        Row::Attribute => put_attribute(sheet, out, pen),
-        Row::List => put_list(sheet, out, pen),
+        Row::Run => put_run(source.sheet, source.pool, out, pen),
+        Row::Type => put_type(source.sheet, source.class, out, pen),
+        Row::Global => put_global(source.sheet, source.class, out, pen),
+        Row::Function => put_function(source.sheet, source.pool, out, pen),
+        Row::Attribute => put_attribute(source.sheet, out, pen),
+        Row::List => put_list(source.sheet, out, pen),
     }
 }
 
 // The rows of a table. The pen's word stays: tables are found by the contents.
-pub fn put_rows(
-    sheet: &[u8],
-    pool: &[u8],
-    class: VersionClass,
-    table: Table,
-    out: &mut [u8],
-    pen: Pen,
-) -> Pen
-    ensures { RowsPut «class» table (λ xs. join (map (row_bytes «class» table.row) xs)) sheet.now pool.now pen out.old out.new result }
+pub fn put_rows(source: &Source, table: Table, out: &mut [u8], pen: Pen) -> Pen
+    ensures { RowsPut source.now.class table (λ xs. join (map (row_bytes source.now.class table.row) xs)) source.now.sheet.now source.now.pool.now pen out.old out.new result }
 {
-    let row = table.row;
     let mut next = Pen {
         word: table.word,
-        run: pen.run,
-        at: pen.at,
+        ..pen
     };
-    let mut left = table.count;
-    while 0 < left {
-        next = put_row(sheet, pool, class, row, out, next);
-        left -= 1;
+    for _ in 0..table.count {
+        next = put_row(source, table.row, out, next);
     }
     Pen {
         word: pen.word,
-        run: next.run,
-        at: next.at,
+        ..next
     }
 }

@@ -1,5 +1,7 @@
 // Offset tables: a count, padding, the starts, and the data. Starts that count bytes and starts that count ids are two
 // units. An entry's length, which the next start needs, is got by putting the entry into an output of no bytes.
+#![tactic(auto, using(crate::proofs::LawsTables::tables))]
+
 ghost use Rattle.std.specs.Prelude.{◌≡◌, ◌+◌, ◌-◌, ◌*◌, ◌%◌, ◌^◌};
 ghost use Rattle.enums.specs.declared.VersionClass.{VersionClass};
 ghost use Rattle.images.specs.declared.rows.Row.TheVariants as kinds;
@@ -9,20 +11,15 @@ ghost use Rattle.images.specs.Tables.{CountPut, ids, NextEntry, StartsPut, ListS
 use crate::fields::Pen;
 use crate::put::{put_le, put_padding, put_varint};
 use crate::rows::{Row, Table, put_row, put_rows};
-use enums::{BytePosition, IdPosition, VersionClass};
+use crate::source::Source;
+use enums::{BytePosition, IdPosition};
 
-// An entry of a table whose starts count bytes: its first word of the sheet, and where it begins in the data.
+// An entry of a table: its first word of the sheet, and where it begins, in the unit of the table's starts: in the data,
+// or, of a debug list, among the ids of all lists.
 #[derive(Clone, Copy)]
-pub struct Entry {
+pub struct Entry<Start> {
     pub word: usize,
-    pub start: BytePosition,
-}
-
-// A debug list: its first word of the sheet, and where its ids begin among those of all lists.
-#[derive(Clone, Copy)]
-pub struct ListEntry {
-    pub word: usize,
-    pub start: IdPosition,
+    pub start: Start,
 }
 
 // How far the starts of lists are put: behind the ids of the last list, and at the next place.
@@ -36,10 +33,7 @@ pub struct ListStarts {
 fn place_in(base: usize, at: usize) -> usize
     ensures { result ≡ at - base }
 {
-    if at < base {
-        return 0;
-    }
-    at - base
+    at.saturating_sub(base)
 }
 
 // A count, and padding to an alignment.
@@ -51,82 +45,47 @@ pub fn put_count(out: &mut [u8], base: usize, at: usize, count: u64, alignment: 
 }
 
 // The entry behind this one.
-pub fn next_entry(
-    sheet: &[u8],
-    pool: &[u8],
-    class: VersionClass,
-    row: Row,
-    out: &mut [u8],
-    this: Entry,
-) -> Entry
-    ensures next_entry { NextEntry «class» row (row_bytes «class» row) sheet.now this.word this.start.0 result.word result.start.0 }
-    ensures out_unchanged { out.new ≡ out.old }
+pub fn next_entry(source: &Source, row: Row, this: Entry<BytePosition>) -> Entry<BytePosition>
+    ensures { NextEntry source.now.class row (row_bytes source.now.class row) source.now.sheet.now this.word this.start.0 result.word result.start.0 }
 {
     let begin = Pen {
         word: this.word,
         run: 0,
         at: 0,
     };
-    let end = put_row(sheet, pool, class, row, &mut out[0..0], begin);
-    let start = this.start;
+    let end = put_row(source, row, &mut [], begin);
     Entry {
         word: end.word,
-        start: BytePosition(std::num::wrapping_add_usize(start.0, end.at)),
+        start: BytePosition(this.start.0.wrapping_add(end.at)),
     }
 }
 
 // The list behind this one, whose first word counts its ids.
-pub fn next_list(sheet: &[u8], this: ListEntry) -> ListEntry
+pub fn next_list(sheet: &[u8], this: Entry<IdPosition>) -> Entry<IdPosition>
     ensures { (c : VersionClass) → NextEntry c kinds.List ids sheet.now this.word this.start.0 result.word result.start.0 }
 {
     let count = sheet::word_at(sheet, this.word) as usize;
-    let first = std::num::wrapping_add_usize(this.word, 1);
-    let start = this.start;
-    ListEntry {
-        word: std::num::wrapping_add_usize(first, count),
-        start: IdPosition(std::num::wrapping_add_usize(start.0, count)),
+    Entry {
+        word: this.word.wrapping_add(1).wrapping_add(count),
+        start: IdPosition(this.start.0.wrapping_add(count)),
     }
 }
 
-// How far `count` starts take a place.
-fn skip_starts(at: usize, count: u64, width: usize) -> usize
-    ensures { result ≡ (at + count * width) % 2 ^ 64 }
+// The starts of a table's entries, the first of them 0. Into an output of no bytes they are only counted.
+pub fn put_starts(source: &Source, table: Table, out: &mut [u8], at: usize) -> usize
+    ensures { StartsPut source.now.class table.row (row_bytes source.now.class table.row) table.width table.count source.now.sheet.now table.word 0 at out.old out.new result }
 {
-    let mut next = at;
-    let mut left = count;
-    while 0 < left {
-        next = std::num::wrapping_add_usize(next, width);
-        left -= 1;
+    if out.is_empty() {
+        return at.wrapping_add((table.count as usize).wrapping_mul(table.width));
     }
-    next
-}
-
-// The starts of a table's entries, the first of them 0.
-pub fn put_starts(
-    sheet: &[u8],
-    pool: &[u8],
-    class: VersionClass,
-    table: Table,
-    out: &mut [u8],
-    at: usize,
-) -> usize
-    ensures { StartsPut «class» table.row (row_bytes «class» table.row) table.width table.count sheet.now table.word 0 at out.old out.new result }
-{
-    if out.len() == 0 {
-        return skip_starts(at, table.count, table.width);
-    }
-    let row = table.row;
     let mut next = at;
     let mut this = Entry {
         word: table.word,
         start: BytePosition(0),
     };
-    let mut left = table.count;
-    while 0 < left {
-        let start = this.start;
-        next = put_le(out, next, start.0 as u64, table.width);
-        this = next_entry(sheet, pool, class, row, out, this);
-        left -= 1;
+    for _ in 0..table.count {
+        next = put_le(out, next, this.start.0 as u64, table.width);
+        this = next_entry(source, table.row, this);
     }
     next
 }
@@ -136,39 +95,25 @@ pub fn put_list_starts(sheet: &[u8], table: Table, out: &mut [u8], at: usize) ->
     ensures { ListStartsPut table.width table.count sheet.now table.word 0 at out.old out.new result.end.0 result.at }
 {
     let mut next = at;
-    let mut this = ListEntry {
+    let mut this = Entry {
         word: table.word,
         start: IdPosition(0),
     };
-    let mut left = table.count;
-    while 0 < left {
-        let start = this.start;
-        next = put_le(out, next, start.0 as u64, table.width);
+    for _ in 0..table.count {
+        next = put_le(out, next, this.start.0 as u64, table.width);
         this = next_list(sheet, this);
-        left -= 1;
     }
-    let end = this.start;
-    ListStarts { end, at: next }
+    ListStarts {
+        end: this.start,
+        at: next,
+    }
 }
 
 // An offset table in a payload that begins at `base`.
-pub fn put_table(
-    sheet: &[u8],
-    pool: &[u8],
-    class: VersionClass,
-    table: Table,
-    out: &mut [u8],
-    base: usize,
-    pen: Pen,
-) -> Pen
-    ensures { TablePut «class» table base sheet.now pool.now pen out.old out.new result }
+pub fn put_table(source: &Source, table: Table, out: &mut [u8], base: usize, pen: Pen) -> Pen
+    ensures { TablePut source.now.class table base source.now.sheet.now source.now.pool.now pen out.old out.new result }
 {
     let first = put_count(out, base, pen.at, table.count, table.width);
-    let data = put_starts(sheet, pool, class, table, out, first);
-    let begin = Pen {
-        word: pen.word,
-        run: pen.run,
-        at: data,
-    };
-    put_rows(sheet, pool, class, table, out, begin)
+    let data = put_starts(source, table, out, first);
+    put_rows(source, table, out, Pen { at: data, ..pen })
 }

@@ -1,21 +1,30 @@
 // Type entries: a row of the sheet becomes a varint tag and the fields behind it, by kind and version class. The sheet
 // was judged, so a tag that no arm names is a scalar's or Token's, and has no fields.
+#![tactic(auto, using(crate::proofs::LawsTypes::types), unfolding(crate::specs::Types::FieldsCopied, format::specs::Kinds::kind_of))]
+
+ghost use Rattle.std.specs.Prelude.{◌≡◌, ◌%◌};
+ghost use Rattle.encoding.specs.Out.{Tells};
 ghost use Rattle.format.specs.Kinds.{kind_of};
 ghost use Rattle.images.specs.Types.{PointerCopied, TileCopied, TensorViewCopied, NewPartitionViewCopied, OldPartitionViewCopied, PartitionViewCopied, GatherScatterViewCopied, StridedViewCopied, FunctionCopied, FieldsCopied, TypeCopied};
 
-use crate::fields::{
-    Number, Pen, copy_list, copy_number, if_bit0, if_present, put_number, since_13_4,
-};
+use crate::fields::{Number, Pen, copy_list, copy_number, copy_where, put_number, skip_words};
 use enums::VersionClass;
+
+// Bit 0 of the flags, which says whether an optional byte is there.
+fn bit0(flags: u64) -> bool
+    ensures { Tells (flags % 2 ≡ 1) result }
+{
+    flags % 2 == 1
+}
 
 // One writer for each kind: the fields behind the tag.
 fn pointer(sheet: &[u8], class: VersionClass, out: &mut [u8], pen: Pen) -> Pen
     ensures { PointerCopied «class» sheet.now pen out.old out.new result }
 {
     let bits = sheet::word_at(sheet, pen.word);
-    let flags = copy_number(sheet, since_13_4(class, Number::Varint), out, pen);
+    let flags = copy_where(sheet, class.from_13_4(), Number::Varint, out, pen);
     let element = copy_number(sheet, Number::Varint, out, flags);
-    copy_number(sheet, if_bit0(bits, Number::Byte), out, element)
+    copy_where(sheet, bit0(bits), Number::Byte, out, element)
 }
 
 fn tile(sheet: &[u8], out: &mut [u8], pen: Pen) -> Pen
@@ -29,11 +38,11 @@ fn tensor_view(sheet: &[u8], class: VersionClass, out: &mut [u8], pen: Pen) -> P
     ensures { TensorViewCopied «class» sheet.now pen out.old out.new result }
 {
     let bits = sheet::word_at(sheet, pen.word);
-    let flags = copy_number(sheet, since_13_4(class, Number::Varint), out, pen);
+    let flags = copy_where(sheet, class.from_13_4(), Number::Varint, out, pen);
     let element = copy_number(sheet, Number::Varint, out, flags);
     let shape = copy_list(sheet, Number::I64, out, element);
     let strides = copy_list(sheet, Number::I64, out, shape);
-    copy_number(sheet, if_bit0(bits, Number::Byte), out, strides)
+    copy_where(sheet, bit0(bits), Number::Byte, out, strides)
 }
 
 fn new_partition_view(sheet: &[u8], out: &mut [u8], pen: Pen) -> Pen
@@ -44,7 +53,7 @@ fn new_partition_view(sheet: &[u8], out: &mut [u8], pen: Pen) -> Pen
     let shape = copy_list(sheet, Number::I32, out, flags);
     let view = copy_number(sheet, Number::Varint, out, shape);
     let dims = copy_list(sheet, Number::I32, out, view);
-    copy_number(sheet, if_bit0(bits, Number::Byte), out, dims)
+    copy_where(sheet, bit0(bits), Number::Byte, out, dims)
 }
 
 // Below 13.3 the presence, which stands where flags stand, is a byte behind the map.
@@ -52,26 +61,28 @@ fn old_partition_view(sheet: &[u8], out: &mut [u8], pen: Pen) -> Pen
     ensures { OldPartitionViewCopied sheet.now pen out.old out.new result }
 {
     let presence = sheet::word_at(sheet, pen.word);
-    let begun = copy_number(sheet, Number::Absent, out, pen);
+    let begun = skip_words(pen, 1);
     let shape = copy_list(sheet, Number::I32, out, begun);
     let view = copy_number(sheet, Number::Varint, out, shape);
     let dims = copy_list(sheet, Number::I32, out, view);
     let next = put_number(out, dims.at, Number::Byte, presence);
-    let behind = Pen {
-        word: dims.word,
-        run: dims.run,
-        at: next,
-    };
-    copy_number(sheet, if_present(presence, Number::Varint), out, behind)
+    copy_where(
+        sheet,
+        presence == 1,
+        Number::Varint,
+        out,
+        Pen { at: next, ..dims },
+    )
 }
 
 fn partition_view(sheet: &[u8], class: VersionClass, out: &mut [u8], pen: Pen) -> Pen
     ensures { PartitionViewCopied «class» sheet.now pen out.old out.new result }
 {
     if class.from_13_3() {
-        return new_partition_view(sheet, out, pen);
+        new_partition_view(sheet, out, pen)
+    } else {
+        old_partition_view(sheet, out, pen)
     }
-    old_partition_view(sheet, out, pen)
 }
 
 fn gather_scatter_view(sheet: &[u8], out: &mut [u8], pen: Pen) -> Pen
@@ -82,7 +93,7 @@ fn gather_scatter_view(sheet: &[u8], out: &mut [u8], pen: Pen) -> Pen
     let shape = copy_list(sheet, Number::I32, out, flags);
     let view = copy_number(sheet, Number::Varint, out, shape);
     let sparse = copy_number(sheet, Number::Varint, out, view);
-    copy_number(sheet, if_bit0(bits, Number::Byte), out, sparse)
+    copy_where(sheet, bit0(bits), Number::Byte, out, sparse)
 }
 
 fn strided_view(sheet: &[u8], out: &mut [u8], pen: Pen) -> Pen
@@ -94,7 +105,7 @@ fn strided_view(sheet: &[u8], out: &mut [u8], pen: Pen) -> Pen
     let strides = copy_list(sheet, Number::I32, out, shape);
     let view = copy_number(sheet, Number::Varint, out, strides);
     let dims = copy_list(sheet, Number::I32, out, view);
-    copy_number(sheet, if_bit0(bits, Number::Byte), out, dims)
+    copy_where(sheet, bit0(bits), Number::Byte, out, dims)
 }
 
 fn function(sheet: &[u8], out: &mut [u8], pen: Pen) -> Pen
@@ -124,7 +135,7 @@ fn put_fields(sheet: &[u8], class: VersionClass, tag: u64, out: &mut [u8], pen: 
 pub fn put_type(sheet: &[u8], class: VersionClass, out: &mut [u8], pen: Pen) -> Pen
     ensures { TypeCopied «class» sheet.now pen out.old out.new result }
 {
-    let count = copy_number(sheet, Number::Absent, out, pen);
+    let count = skip_words(pen, 1);
     let tag = sheet::word_at(sheet, count.word);
     let first = copy_number(sheet, Number::Varint, out, count);
     put_fields(sheet, class, tag, out, first)

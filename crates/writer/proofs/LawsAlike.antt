@@ -8,7 +8,9 @@ use mathlib.Core.Option.{Option, none, some}
 use lib.ListN.{length, get_or, replicate, length-replicate}
 use Rattle.exact.specs.Choice.{choose}
 use Rattle.exact.proofs.LawsChoice.{choose_yes, choose_no}
+use Rattle.std.proofs.Common.{Result}
 use Rattle.enums.specs.Refusals as refusals
+use Rattle.enums.specs.declared.Refusal.{Refusal}
 use Rattle.format.specs.Read.{Read, accepted, refused}
 use Rattle.format.specs.Decode.{most_bytes}
 use Rattle.format.specs.Sheet.{Frame, pool_length, words_of}
@@ -22,7 +24,6 @@ use Rattle.sheet.specs.Store.{words_in}
 use Rattle.judge.specs.Judge.{judged_bytes}
 use Rattle.judge.proofs.LawsPlaced.{judged-holds}
 use Rattle.images.specs.Written.{not_written, image_size, length_of, in_room}
-use Rattle.images.specs.declared.Imaged.{Imaged}
 use Rattle.images.proofs.LawsHanded.{size_same}
 use Rattle.writer.specs.Written.{writing, writing_alone, WritePost, ImagePost}
 
@@ -96,7 +97,7 @@ unfolding held
 held-room n (accepted m) h = choose_yes (dec_le m n) _ _ (h m refl)
 held-room n (refused c k i) h = refl
 
-module _ {s pool out out' : List ℕ} {i w : Imaged} (x : ImagePost s i) (y : WritePost s pool out out' w) where
+module _ {s pool out out' : List ℕ} {i w : Result ℕ Refusal} (x : ImagePost s i) (y : WritePost s pool out out' w) where
   -- Lent the pool of the length of word 4, within its limit, `write` answers as `image` does, but 11 where the output is
   -- smaller ..
   pub write-as-image : All (Fits 8) pool → length pool ≡ get_or (words_in s) 4 0 → length pool ≤ most_bytes →
@@ -111,13 +112,13 @@ module _ {s pool out out' : List ℕ} {i w : Imaged} (x : ImagePost s i) (y : Wr
   image-write-same b n m h = size_same w i (write-as-image b n m ∙ held-room (length out) (image_size i) h)
 
 -- Lent a pool of another length, `write` is 12, for a sheet and a pool within their limits ..
-pub write-other-pool : {s pool out out' : List ℕ} {w : Imaged} → WritePost s pool out out' w → length (words_in s) ≤ most_words →
+pub write-other-pool : {s pool out out' : List ℕ} {w : Result ℕ Refusal} → WritePost s pool out out' w → length (words_in s) ≤ most_words →
     length pool ≤ most_bytes → ¬ (length pool ≡ get_or (words_in s) 4 0) → image_size w ≡ not_written refusals.unsound
 unfolding in_room
 write-other-pool {s} {pool} {out} y a b n = y.answer ∙ ap (in_room (length out)) (other-unsound s pool a b n)
 
 -- .. and lent one over its limit, 1.
-pub write-long-pool : {s pool out out' : List ℕ} {w : Imaged} → WritePost s pool out out' w → most_bytes < length pool →
+pub write-long-pool : {s pool out out' : List ℕ} {w : Result ℕ Refusal} → WritePost s pool out out' w → most_bytes < length pool →
     image_size w ≡ not_written refusals.limit
 unfolding in_room
 write-long-pool {s} {pool} {out} y h = y.answer ∙ ap (in_room (length out)) (long-limit s pool h)

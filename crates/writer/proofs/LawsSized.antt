@@ -9,7 +9,10 @@ use mathlib.Core.Option.{Option, none, some, some-injective}
 use lib.ListN.{length, replicate, length-replicate}
 use Rattle.exact.specs.Choice.{choose}
 use Rattle.exact.proofs.LawsChoice.{choose_yes}
+use Rattle.std.proofs.Common.{Result, Err}
 use Rattle.enums.specs.Refusals as refusals
+use Rattle.enums.specs.Numbered.{number_of}
+use Rattle.enums.specs.declared.Refusal.{Refusal}
 use Rattle.format.specs.Read.{accepted}
 use Rattle.format.specs.Tables.{Tables}
 use Rattle.format.specs.Decode.{most_bytes}
@@ -29,8 +32,6 @@ use Rattle.judge.specs.Judge.{judged_bytes}
 use Rattle.judge.proofs.LawsJudge.{whole_words}
 use Rattle.judge.proofs.LawsPlaced.{judged-words}
 use Rattle.images.specs.Written.{image_size, length_of}
-use Rattle.images.specs.declared.Imaged.{Imaged}
-use Rattle.images.specs.declared.Imaged.TheVariants as told
 use Rattle.images.proofs.LawsHanded.{size_same}
 use Rattle.images.proofs.LawsJudged.{image-fine}
 use Rattle.writer.specs.Written.{writing_alone, Sized, ImagePost}
@@ -98,7 +99,7 @@ tables-sized s t h whole words m k =
     ap accepted l
 
 -- All of the promise.
-pub image-post : (s : List ℕ) (r : Imaged) → image_size r ≡ length_of (writing_alone s) → ImagePost s r
+pub image-post : (s : List ℕ) (r : Result ℕ Refusal) → image_size r ≡ length_of (writing_alone s) → ImagePost s r
 image-post s r a =
     record {
       answer = a;
@@ -107,14 +108,14 @@ image-post s r a =
     }
 
 -- A sheet over its limit ..
-pub image-refused : (s : List ℕ) (c : ℕ) → writing_alone s ≡ refuses c → ImagePost s (told.Refused c)
+pub image-refused : (s : List ℕ) (c : Refusal) → writing_alone s ≡ refuses (number_of c) → ImagePost s (Err c)
 unfolding length_of
-image-refused s c e = image-post s (told.Refused c) (ap length_of (sym e))
+image-refused s c e = image-post s (Err c) (ap length_of (sym e))
 
 -- .. or within.
-pub image-within : (s : List ℕ) (r : Imaged) → length s / 8 ≤ most_words → image_size r ≡ length_of (imaged (blank (judged_bytes s))) → ImagePost s r
+pub image-within : (s : List ℕ) (r : Result ℕ Refusal) → length s / 8 ≤ most_words → image_size r ≡ length_of (imaged (blank (judged_bytes s))) → ImagePost s r
 image-within s r w x = image-post s r (x ∙ ap length_of (sym (alone-within s w)))
 
 -- Any two answers that the contract allows are equal.
-pub image-only : {s : List ℕ} {r q : Imaged} → ImagePost s r → ImagePost s q → r ≡ q
+pub image-only : {s : List ℕ} {r q : Result ℕ Refusal} → ImagePost s r → ImagePost s q → r ≡ q
 image-only {r = r} {q = q} x y = size_same r q (x.answer ∙ sym y.answer)

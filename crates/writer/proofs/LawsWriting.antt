@@ -11,7 +11,10 @@ use Rattle.exact.specs.Choice.{choose}
 use Rattle.exact.proofs.LawsChoice.{choose_yes, choose_no}
 use Rattle.encoding.specs.Out.{put}
 use Rattle.encoding.proofs.LawsOut.{put_full}
+use Rattle.std.proofs.Common.{Result, Err}
 use Rattle.enums.specs.Refusals as refusals
+use Rattle.enums.specs.Numbered.{number_of}
+use Rattle.enums.specs.declared.Refusal.{Refusal}
 use Rattle.format.specs.Read.{Read, accepted, refused}
 use Rattle.format.specs.Tables.{Tables}
 use Rattle.format.specs.Decode.{most_bytes, decode}
@@ -28,8 +31,6 @@ use Rattle.judge.specs.Judge.{judged_bytes}
 use Rattle.judge.proofs.LawsJudge.{whole_words}
 use Rattle.judge.proofs.LawsPlaced.{judged-words}
 use Rattle.images.specs.Written.{not_written, image_size, in_room, with_image}
-use Rattle.images.specs.declared.Imaged.{Imaged}
-use Rattle.images.specs.declared.Imaged.TheVariants as told
 use Rattle.images.proofs.LawsHanded.{size_same}
 use Rattle.writer.specs.Written.{writing, writing_alone, Kept, WritePost}
 
@@ -85,7 +86,7 @@ writing-written s pool bs = go (dec_le (length (words_in s)) most_words) (dec_le
     go (yes a) (no b) q = absurd (refuses-not-writes q)
     go (no a) b q = absurd (refuses-not-writes q)
 
-module _ (s pool out out' : List ℕ) (r : Imaged) (a : image_size r ≡ in_room (length out) (writing s pool)) (o : out' ≡ with_image out (writing s pool)) where
+module _ (s pool out out' : List ℕ) (r : Result ℕ Refusal) (a : image_size r ≡ in_room (length out) (writing s pool)) (o : out' ≡ with_image out (writing s pool)) where
   unchanged-by : (w : Writing) → writing s pool ≡ w → (c n i : ℕ) → image_size r ≡ refused c n i → out' ≡ out
   unfolding in_room with_image choose
   unchanged-by (writes bs) e c n i h = go (dec_le (length bs) (length out)) (sym (a ∙ ap (in_room (length out)) e) ∙ h)
@@ -147,13 +148,13 @@ module _ (s pool out out' : List ℕ) (r : Imaged) (a : image_size r ≡ in_room
       }
 
 -- A sheet or a pool over its limit ..
-pub write-refused : (s pool out : List ℕ) (c : ℕ) → writing s pool ≡ refuses c → WritePost s pool out out (told.Refused c)
+pub write-refused : (s pool out : List ℕ) (c : Refusal) → writing s pool ≡ refuses (number_of c) → WritePost s pool out out (Err c)
 unfolding in_room with_image
 write-refused s pool out c e =
-    write-post s pool out out (told.Refused c) (ap (in_room (length out)) (sym e)) (ap (with_image out) (sym e))
+    write-post s pool out out (Err c) (ap (in_room (length out)) (sym e)) (ap (with_image out) (sym e))
 
 -- .. or both within.
-pub write-within : (s pool out out' : List ℕ) (r : Imaged) → length s / 8 ≤ most_words → length pool ≤ most_bytes →
+pub write-within : (s pool out out' : List ℕ) (r : Result ℕ Refusal) → length s / 8 ≤ most_words → length pool ≤ most_bytes →
     image_size r ≡ in_room (length out) (imaged (with_pool pool (judged_bytes s))) → out' ≡ with_image out (imaged (with_pool pool (judged_bytes s))) →
     WritePost s pool out out' r
 write-within s pool out out' r w b x y =
@@ -161,6 +162,6 @@ write-within s pool out out' r w b x y =
     write-post s pool out out' r (x ∙ ap (in_room (length out)) (sym e)) (y ∙ ap (with_image out) (sym e))
 
 -- Any two results that the contract allows are equal.
-pub write-only : {s pool out out' out'' : List ℕ} {r q : Imaged} → WritePost s pool out out' r → WritePost s pool out out'' q →
+pub write-only : {s pool out out' out'' : List ℕ} {r q : Result ℕ Refusal} → WritePost s pool out out' r → WritePost s pool out out'' q →
     (r ≡ q) × (out' ≡ out'')
 write-only {r = r} {q = q} x y = (size_same r q (x.answer ∙ sym y.answer), x.output ∙ sym y.output)

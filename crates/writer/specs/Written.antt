@@ -1,10 +1,11 @@
 -- What `write` and `image` answer of a handed sheet, what they leave in the output, and what they promise (document 01,
 -- "Refusal numbers": "Writing: 1 for sheet and pool, 12, 13, 1 for the image, 11").
-use Rattle.std.specs.Prelude.{◌≡◌, ℕ, ◌%◌, ◌≤◌, List, length}
+use Rattle.std.specs.Prelude.{◌≡◌, ℕ, ◌%◌, ◌≤◌, List, length, Result}
 use Rattle.std.proofs.Math.Decide.{dec_le}
 use Rattle.exact.specs.Choice.{choose}
 use Rattle.encoding.specs.Out.{put}
 use Rattle.enums.specs.Refusals as refusals
+use Rattle.enums.specs.declared.Refusal.{Refusal}
 use Rattle.format.specs.Tables.{Tables}
 use Rattle.format.specs.Explains.{Explains}
 use Rattle.format.specs.Read.{accepted, refused}
@@ -17,7 +18,6 @@ use Rattle.format.specs.Write.{Writing, refuses, most_words, imaged, blank}
 use Rattle.sheet.specs.Store.{words_in}
 use Rattle.judge.specs.Judge.{judged_bytes}
 use Rattle.images.specs.Written.{image_size, length_of, in_room, with_image}
-use Rattle.images.specs.declared.Imaged.{Imaged}
 
 -- What is written of a sheet in a store and its pool.
 unfoldable pub writing : List ℕ → List ℕ → Writing
@@ -44,7 +44,7 @@ pub record Kept (s pool out out' : List ℕ) (n : ℕ) : Type 0 where
   pub alone : (u : Tables) → Sound u → image tables ≡ image u → tables ≡ u
 
 -- What `write` promises of the output out, which it leaves as out'.
-pub record WritePost (s pool out out' : List ℕ) (r : Imaged) : Type 0 where
+pub record WritePost (s pool out out' : List ℕ) (r : Result ℕ Refusal) : Type 0 where
   pub answer : image_size r ≡ in_room (length out) (writing s pool)
   pub output : out' ≡ with_image out (writing s pool)
   -- A refused call has changed nothing.
@@ -64,7 +64,7 @@ pub record Sized (s : List ℕ) (n : ℕ) : Type 0 where
   pub size : (u : Tables) → Sound u → words_in s ≡ sheet_of u → n ≡ length (image u)
 
 -- What `image` promises.
-pub record ImagePost (s : List ℕ) (r : Imaged) : Type 0 where
+pub record ImagePost (s : List ℕ) (r : Result ℕ Refusal) : Type 0 where
   pub answer : image_size r ≡ length_of (writing_alone s)
   -- Only the length of the image of tables whose sheet was handed is answered ..
   pub sound : (n : ℕ) → image_size r ≡ accepted n → Sized s n

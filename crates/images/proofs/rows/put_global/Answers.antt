@@ -4,9 +4,8 @@ use Rattle.format.specs.Sheet.{global_words}
 use Rattle.format.specs.Tests.{since3?}
 use Rattle.format.specs.Image.{only_where, global_bytes}
 use Rattle.images.specs.Rows.{GoodRow, row_words, row_run, row_bytes}
-use Rattle.images.specs.declared.fields.Number.TheVariants.{Byte}
 use Rattle.images.proofs.LawsFields.{copied-then, copied-as}
-use Rattle.images.proofs.LawsTypes.{varint-copied, varint-where, where-copied, byte-as}
+use Rattle.images.proofs.LawsTypes.{varint-copied, varint-where, where-copied, byte-as, tells_same}
 use Rattle.images.proofs.rows.put_global.Goals as goal
 
 pub returns : goal.returns
@@ -22,6 +21,6 @@ returns c pool =
           (copied-then (varint-copied c.copy_number-alignment.ensures _ g.alignment)
           (copied-then
           (copied-as (ap (only_where since) (byte-as g.visibility h.visibility_byte))
-          (where-copied since Byte c.since_13_3.ensures c.copy_number-visibility.ensures _ g.visibility))
-          (varint-where since c.since_13_3-2.ensures c.copy_number.ensures _ g.constant_flag)))));
+          (where-copied since (tells_same c.from_13_3.ensures) c.copy_where-visibility.ensures _ g.visibility))
+          (varint-where since (tells_same c.from_13_3-2.ensures) c.copy_where.ensures _ g.constant_flag)))));
     }

@@ -2,8 +2,8 @@
 use Rattle.std.proofs.Common.{sym, ◌∙◌}
 use Rattle.images.specs.Rows.{row_words, row_run, row_bytes}
 use Rattle.sheet.proofs.LawsLies.{lies-first}
-use Rattle.images.proofs.LawsFields.{copied-then, copied-as, copied-knowing}
-use Rattle.images.proofs.LawsTypes.{absent-copied, many-flat64}
+use Rattle.images.proofs.LawsFields.{copied-then, copied-as, copied-knowing, skipped-one}
+use Rattle.images.proofs.LawsTypes.{many-flat64}
 use Rattle.images.proofs.rows.put_list.Goals as goal
 
 pub returns : goal.returns
@@ -14,6 +14,6 @@ returns c v pool =
           λ ids h.
           copied-knowing
           (λ l.
-          copied-then (absent-copied c.copy_number-row.ensures _ _)
+          copied-then (skipped-one c.skip_words.ensures _ _ _ _)
           (copied-as (many-flat64 ids) (c.copy_numbers.ensures.each _ ids (sym (c.word_at-count.ensures ∙ lies-first _ _ l)))));
     }

@@ -1,21 +1,20 @@
 -- `put_list_starts` puts the starts one by one: whatever putting the rest leaves, putting them all leaves it.
 -- Assumes nothing.
-use Rattle.std.proofs.Common.{refl, rules}
+use Rattle.std.proofs.Common.{◌≡◌, ◌+◌, ◌-◌, suc, arith}
 use Rattle.images.proofs.LawsTables.{ids-le, starts_none, starts_more, lists-end, lists-on, list-starts}
 use Rattle.images.proofs.tables.put_list_starts.Goals as goal
 
-pub loop-left-init : goal.loop-left-init
-loop-left-init c = (λ v o r x. x, λ e x. x, refl)
-
-pub loop-left-preserved : goal.loop-left-preserved
-loop-left-preserved c =
-    let l = c.loop-left in
-    let t = c.loop-left-test.true in
+pub loop-preserved : goal.loop-preserved
+loop-preserved c =
+    let n = c.args.table.count in
+    let z : n - c.loop.counter ≡ suc (n - (c.loop.counter + 1)) = omega arith in
     let m = c.next_list-this.ensures in
-    (λ v o r x. l.invariant.0 v o r (starts_more l.left t (ids-le v) c.put_le-next.ensures (m v) refl x), λ e x. l.invariant.1 e (lists-on l.left t m x), search rules)
+    record {
+      starts = λ v o r x. c.loop.invariant.starts v o r (starts_more z (ids-le v) c.put_le-next.ensures (m v) x);
+      end = λ e x. c.loop.invariant.end e (lists-on z m x);
+    }
 
 pub returns : goal.returns
 returns c =
-    let l = c.loop-left in
-    let t = c.loop-left-test.false in
-    list-starts (λ v. l.invariant.0 v _ _ (starts_none _ _ _ _ _ _ _ _ _ _ t)) (l.invariant.1 _ (lists-end _ _ _ _ t))
+    list-starts (λ v. c.loop.invariant.starts v _ _ (starts_none _ _ _ _ _ _ _ _ _ _ (omega arith)))
+    (c.loop.invariant.end _ (lists-end _ _ _ _ (omega arith)))

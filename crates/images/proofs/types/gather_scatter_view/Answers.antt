@@ -16,5 +16,5 @@ returns c =
           (copied-then (list32 c.copy_list-shape.ensures pool shape)
           (copied-then (varint-copied c.copy_number-view.ensures pool view)
           (copied-then (varint-copied c.copy_number-sparse.ensures pool sparse)
-          (optional-copied _ flags (c.word_at-bits.ensures ∙ lies-first _ _ l) c.if_bit0.ensures c.copy_number.ensures pool padding h)))));
+          (optional-copied _ flags (c.word_at-bits.ensures ∙ lies-first _ _ l) c.bit0.ensures c.copy_where.ensures pool padding h)))));
     }

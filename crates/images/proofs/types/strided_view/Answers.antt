@@ -17,5 +17,5 @@ returns c =
           (copied-then (list32 c.copy_list-strides.ensures pool strides)
           (copied-then (varint-copied c.copy_number-view.ensures pool view)
           (copied-then (list32 c.copy_list-dims.ensures pool dims)
-          (optional-copied _ flags (c.word_at-bits.ensures ∙ lies-first _ _ l) c.if_bit0.ensures c.copy_number.ensures pool padding h))))));
+          (optional-copied _ flags (c.word_at-bits.ensures ∙ lies-first _ _ l) c.bit0.ensures c.copy_where.ensures pool padding h))))));
     }

@@ -3,7 +3,7 @@ use Rattle.std.proofs.Common.{◌∙◌}
 use Rattle.format.specs.Tests.{since4?}
 use Rattle.sheet.proofs.LawsLies.{lies-first}
 use Rattle.images.proofs.LawsFields.{copied-then, copied-knowing}
-use Rattle.images.proofs.LawsTypes.{varint-copied, varint-where, optional-copied, list64}
+use Rattle.images.proofs.LawsTypes.{varint-copied, varint-where, tells_same, optional-copied, list64}
 use Rattle.images.proofs.types.tensor_view.Goals as goal
 
 pub returns : goal.returns
@@ -13,9 +13,9 @@ returns c =
           λ pool flags element shape strides attribute h.
           copied-knowing
           (λ l.
-          copied-then (varint-where (since4? c.args.«class») c.since_13_4.ensures c.copy_number-flags.ensures pool flags)
+          copied-then (varint-where (since4? c.args.«class») (tells_same c.from_13_4.ensures) c.copy_where-flags.ensures pool flags)
           (copied-then (varint-copied c.copy_number-element.ensures pool element)
           (copied-then (list64 c.copy_list-shape.ensures pool shape)
           (copied-then (list64 c.copy_list-strides.ensures pool strides)
-          (optional-copied _ flags (c.word_at-bits.ensures ∙ lies-first _ _ l) c.if_bit0.ensures c.copy_number.ensures pool attribute h)))));
+          (optional-copied _ flags (c.word_at-bits.ensures ∙ lies-first _ _ l) c.bit0.ensures c.copy_where.ensures pool attribute h)))));
     }

@@ -1,7 +1,0 @@
--- `next_list` goes by the count that a list begins with. Assumes nothing.
-use Rattle.images.proofs.LawsTables.{list-next}
-use Rattle.images.proofs.tables.next_list.Goals as goal
-
-pub returns : goal.returns
-returns c v =
-    list-next c.word_at-count.ensures c.wrapping_add_usize-first.ensures.value c.wrapping_add_usize.ensures.value c.wrapping_add_usize-2.ensures.value
