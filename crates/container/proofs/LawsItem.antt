@@ -1,5 +1,7 @@
 -- A section is its header and its payload: how the code's steps follow the reader of items. Assumes nothing.
 use mathlib.Core.Path.{◌≡◌, refl, sym, ap, ◌∙◌}
+use lib.Bits.{and_mask}
+use Rattle.std.specs.Prelude.{bit_and}
 use Prim.Native.Nat.{ℕ, ◌%◌, ◌<◌, ◌≤◌}
 use native.Mathlib.Omega.{arith}
 use native.Mathlib.Decide.{ℕ_discrete, dec_lt}
@@ -97,59 +99,27 @@ item-header l i = after-byte l (byte l i)
 
 module _ (first : ℕ) (l : List ℕ) (i : ℕ) where
   -- Without the top bit there is no alignment ..
-  pub alignment-none : first < 128 → got tt i ≡ alignment_at first l i
+  pub alignment_none : first < 128 → alignment_at first l i ≡ got tt i
   unfolding alignment_at pure
-  alignment-none h = ap (λ p. p l i) (sym (choose_yes (dec_lt first 128) (pure tt) (bind varint_at padding_at) h))
-
-  alignment-some : 128 ≤ first → alignment_at first l i ≡ bind varint_at padding_at l i
-  unfolding alignment_at
-  alignment-some h = ap (λ p. p l i) (choose_no (dec_lt first 128) (pure tt) (bind varint_at padding_at) (omega arith))
+  alignment_none h = ap (λ p. p l i) (choose_yes (dec_lt first 128) (pure tt) (bind varint_at padding_at) h)
 
   -- .. and with it a varint, which may be refused, and padding.
-  pub alignment-stop : 128 ≤ first → (c k : ℕ) → varint_at l i ≡ stop c k → stop c k ≡ alignment_at first l i
-  alignment-stop h c k e = sym (alignment-some h ∙ bind-stop varint_at padding_at l i c k (sym e))
+  pub alignment_some : 128 ≤ first → alignment_at first l i ≡ bind varint_at padding_at l i
+  unfolding alignment_at
+  alignment_some h = ap (λ p. p l i) (choose_no (dec_lt first 128) (pure tt) (bind varint_at padding_at) (omega arith))
 
-  pub alignment-got : 128 ≤ first → (a j : ℕ) → varint_at l i ≡ got a j → padding_at a l j ≡ alignment_at first l i
-  alignment-got h a j e = sym (alignment-some h ∙ bind-got varint_at padding_at l i a j (sym e))
+-- The id is in the low seven bits of the first byte.
+pub low_seven : (first : ℕ) → bit_and first 127 ≡ first % 128
+low_seven first = and_mask first 7
 
-module _ (l : List ℕ) (i : ℕ) where
-  -- The header's first byte is not there.
-  pub header-no-byte : (c k : ℕ) → byte l i ≡ stop c k → stop c k ≡ section_header_at l i
-  unfolding section_header_at bind follow
-  header-no-byte c k e = sym (rw e)
+module _ (A : Type 0) (id : ℕ) (p q : Parser A) (l : List ℕ) (i : ℕ) where
+  -- The end marker is read ..
+  pub end_marker : id ≡ end_of_bytecode → choose (ℕ_discrete id end_of_bytecode) p q l i ≡ p l i
+  end_marker h = ap (λ x. x l i) (choose_yes (ℕ_discrete id end_of_bytecode) p q h)
 
-  module _ (first j id : ℕ) (b : byte l i ≡ got first j) (low : id ≡ first % 128) where
-    -- The end marker.
-    pub header-end : id ≡ end_of_bytecode → got (record { id = id; data_len = 0 }) j ≡ section_header_at l i
-    unfolding section_header_at bind follow pure
-    header-end e =
-        let d = ℕ_discrete (first % 128) end_of_bytecode in
-        rw (b, low) (sym (ap (λ p. p l j) (choose_yes d (pure (header l first 0)) _ (sym low ∙ e))))
-
-    module _ (not : ¬ (id ≡ end_of_bytecode)) where
-      header-more : section_header_at l i ≡
-          bind varint_at (λ n. bind (alignment_at first) (λ u. pure (record { id = id; data_len = n }))) l j
-      unfolding section_header_at bind follow
-      header-more =
-          let d = ℕ_discrete (first % 128) end_of_bytecode in
-          rw (b, low) (ap (λ p. p l j) (choose_no d (pure (header l first 0)) _ (λ e. not (low ∙ e))))
-
-      -- The length is refused.
-      pub header-no-length : (c k : ℕ) → varint_at l j ≡ stop c k → stop c k ≡ section_header_at l i
-      header-no-length c k e = sym (header-more ∙ bind-stop varint_at _ l j c k (sym e))
-
-      module _ (n m : ℕ) (v : varint_at l j ≡ got n m) where
-        -- The alignment is refused ..
-        pub header-no-alignment : (c k : ℕ) → alignment_at first l m ≡ stop c k → stop c k ≡ section_header_at l i
-        header-no-alignment c k e =
-            sym (header-more ∙ bind-got varint_at _ l j n m (sym v) ∙ bind-stop (alignment_at first) _ l m c k (sym e))
-
-        -- .. or all was read.
-        pub header-got : (q : ℕ) → alignment_at first l m ≡ got tt q →
-            got (record { id = id; data_len = n }) q ≡ section_header_at l i
-        unfolding pure
-        header-got q e =
-            sym (header-more ∙ bind-got varint_at _ l j n m (sym v) ∙ bind-got (alignment_at first) _ l m tt q (sym e))
+  -- .. or another id.
+  pub no_end_marker : ¬ (id ≡ end_of_bytecode) → choose (ℕ_discrete id end_of_bytecode) p q l i ≡ q l i
+  no_end_marker h = ap (λ x. x l i) (choose_no (ℕ_discrete id end_of_bytecode) p q h)
 
 -- A header that was read takes a byte at least.
 pub header-in : (l : List ℕ) (i : ℕ) (h : SectionHeader) (j : ℕ) → section_header_at l i ≡ got h j →

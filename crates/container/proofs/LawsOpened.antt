@@ -6,74 +6,72 @@ use native.Mathlib.Omega.{arith}
 use native.Mathlib.Decide.{dec_le}
 use mathlib.Core.List.{List}
 use lib.ListN.{length}
-use Rattle.exact.specs.Got.{Got, got, stop}
+use Rattle.exact.specs.Got.{Got, got, stop, follow}
+use Rattle.exact.specs.Basic.{pure}
+use Rattle.exact.specs.Sequence.{bind, mapped}
 use Rattle.exact.specs.Choice.{choose}
 use Rattle.exact.proofs.LawsChoice.{choose_yes, choose_no}
 use Rattle.enums.specs.Refusals as refusals
-use Rattle.reading.specs.declared.Reader.{Reader}
-use Rattle.reading.specs.declared.Refused.{Refused}
 use Rattle.format.specs.Tables.{Version}
 use Rattle.format.specs.Sections.{Section}
 use Rattle.format.specs.Explains.{Container}
-use Rattle.format.specs.Read.{Read, accepted, refused, at_stage}
+use Rattle.format.specs.Read.{Read, accepted, refused, at_stage, map_read}
 use Rattle.format.specs.DecodeContainer.{header_at, sections_at}
 use Rattle.format.specs.Decode.{most_bytes, payloads, read_placed, placed}
 use Rattle.format.specs.Views.{and_then, read_sections}
 use Rattle.format.proofs.Decoded.{container-read}
-use Rattle.container.specs.declared.sections.Stopped.{Stopped}
-use Rattle.container.specs.declared.sections.RawSections.{RawSections}
 use Rattle.container.specs.declared.sections.Container.{Container as Held}
-use Rattle.container.specs.declared.sections.Walked.TheVariants as walk
-use Rattle.container.specs.declared.sections.Judged.TheVariants as judged
-use Rattle.container.specs.Container.{held_places, raw_sections, Opened, opened, held_version, held_container}
+use Rattle.container.specs.Container.{held_sections, Opened, opened, held_version, held_container}
 
--- What the walk's answer says of the model: a refusal ..
-pub raw-stop : (r : RawSections) (g : Got (List Section)) (x : Refused) → r ≡ raw_sections g → r.walked ≡ walk.Stop x →
-    g ≡ stop x.no x.at
-raw-stop r (got ss j) x e w = absurd (let z : ◌≡◌ {A = ℕ} 0 1 = cc (ap (λ q. q.walked) e) in omega arith)
-raw-stop r (stop c k) x e w = cc (ap (λ q. q.walked) e)
+-- Of header and walk the code holds the version and the places.
+held-walked : (v : Version) (g : Got (List Section)) →
+    map_read held_container (at_stage refusals.at_sections g (λ ss _. accepted (record { version = v; sections = ss }))) ≡
+    at_stage refusals.at_sections (follow g (λ ss k. got (held_sections ss) k))
+    (λ q _. accepted (record { version = held_version v; sections = q }))
+unfolding map_read at_stage follow
+held-walked v (got ss k) = refl
+held-walked v (stop c i) = refl
 
--- .. or, which is the first of the two ways to end, sections and their places.
-pub raw-end : (r : RawSections) (g : Got (List Section)) (x : Reader) → r ≡ raw_sections g → r.walked ≡ walk.End x →
-    (ss : List Section) × (k : ℕ) × (g ≡ got ss k) × (r.places ≡ held_places ss)
-raw-end r (got ss j) x e w = (ss, j, refl, ap (λ q. q.places) e)
-raw-end r (stop c k) x e w = absurd (let z : ◌≡◌ {A = ℕ} 0 1 = cc (ap (λ q. q.walked) e) in omega arith)
+held-headed : (file : List ℕ) (g : Got Version) →
+    map_read held_container
+    (at_stage refusals.at_header g
+    (λ v j. at_stage refusals.at_sections (sections_at file j) (λ ss _. accepted (record { version = v; sections = ss })))) ≡
+    at_stage refusals.at_header g
+    (λ v j. at_stage refusals.at_sections (mapped held_sections sections_at file j)
+    (λ q _. accepted (record { version = held_version v; sections = q })))
+unfolding map_read at_stage mapped bind follow pure
+held-headed file (got v j) = held-walked v (sections_at file j)
+held-headed file (stop c i) = refl
 
 module _ (file : List ℕ) where
   -- A file over the limit is refused ..
-  pub opened-limit : most_bytes < length file → opened file ≡ refused refusals.limit refusals.at_limits 0
+  pub over_limit : most_bytes < length file →
+      map_read held_container (opened file) ≡ refused refusals.limit refusals.at_limits 0
+  unfolding opened map_read
+  over_limit h = ap (map_read held_container) (choose_no (dec_le (length file) most_bytes) _ _ (omega arith))
+
+  -- .. and of another one header and walk are read.
+  pub within_limit : length file ≤ most_bytes →
+      map_read held_container (opened file) ≡
+      at_stage refusals.at_header (header_at file 0)
+      (λ v j. at_stage refusals.at_sections (mapped held_sections sections_at file j)
+      (λ q _. accepted (record { version = held_version v; sections = q })))
   unfolding opened
-  opened-limit h = choose_no (dec_le (length file) most_bytes) _ _ (omega arith)
-
-  module _ (h : length file ≤ most_bytes) where
-    -- .. else its header may be ..
-    pub opened-header : (c k : ℕ) → header_at file 0 ≡ stop c k → opened file ≡ refused c refusals.at_header k
-    unfolding opened at_stage
-    opened-header c k e = choose_yes (dec_le (length file) most_bytes) _ _ h ∙ rw e
-
-    module _ (v : Version) (j : ℕ) (e : header_at file 0 ≡ got v j) where
-      -- .. or its sections ..
-      pub opened-sections : (c k : ℕ) → sections_at file j ≡ stop c k → opened file ≡ refused c refusals.at_sections k
-      unfolding opened at_stage
-      opened-sections c k f = choose_yes (dec_le (length file) most_bytes) _ _ h ∙ rw (e, f)
-
-      -- .. or it is opened.
-      pub opened-got : (ss : List Section) (k : ℕ) → sections_at file j ≡ got ss k →
-          opened file ≡ accepted (record { version = v; sections = ss })
-      unfolding opened at_stage
-      opened-got ss k f = choose_yes (dec_le (length file) most_bytes) _ _ h ∙ rw (e, f)
+  within_limit h =
+      ap (map_read held_container) (choose_yes (dec_le (length file) most_bytes) _ _ h) ∙ held-headed file (header_at file 0)
 
 -- What the container's answer says of the model: a refusal ..
-pub held-stop : (r : Held) (g : Read Opened) (x : Stopped) → r ≡ held_container g → r.judged ≡ judged.Stop x →
-    g ≡ refused x.no x.stage x.at
-held-stop r (accepted o) x e w = absurd (let z : ◌≡◌ {A = ℕ} 0 1 = cc (ap (λ q. q.judged) e) in omega arith)
-held-stop r (refused c n i) x e w = cc (ap (λ q. q.judged) e)
+pub held-stop : (g : Read Opened) (c n i : ℕ) → refused c n i ≡ map_read held_container g → g ≡ refused c n i
+unfolding map_read
+held-stop (accepted o) c n i e = cc
+held-stop (refused c' n' i') c n i e = cc
 
--- .. or, which is the first of the two judgements, an opened file, its version and its places.
-pub held-passed : (r : Held) (g : Read Opened) → r ≡ held_container g → r.judged ≡ judged.Passed →
-    (x : Opened) × (g ≡ accepted x) × (r.version ≡ held_version x.version) × (r.places ≡ held_places x.sections)
-held-passed r (accepted o) e w = (o, refl, ap (λ q. q.version) e, ap (λ q. q.places) e)
-held-passed r (refused c n i) e w = absurd (let z : ◌≡◌ {A = ℕ} 0 1 = cc (ap (λ q. q.judged) e) in omega arith)
+-- .. or an opened file, as the code holds it.
+pub held-passed : (g : Read Opened) (k : Held) → accepted k ≡ map_read held_container g →
+    (x : Opened) × (g ≡ accepted x) × (k ≡ held_container x)
+unfolding map_read
+held-passed (accepted o) k e = (o, refl, cc)
+held-passed (refused c n i) k e = cc
 
 -- Header and walk, and then k.
 abbrev staged : {A : Type 0} → (Version → List Section → Read A) → List ℕ → Got Version → Read A

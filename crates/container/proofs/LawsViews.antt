@@ -8,11 +8,11 @@ use mathlib.Core.Bool.{true, false, true≢false}
 use mathlib.Core.Option.{Option, none, some}
 use mathlib.Core.List.{List}
 use lib.ListN.{length, get_or}
+use Rattle.std.specs.Prelude.{Result}
 use Rattle.exact.specs.Choice.{choose}
 use Rattle.exact.proofs.LawsChoice.{choose_yes, choose_no}
 use Rattle.enums.specs.Container.{num_sections}
 use Rattle.enums.specs.Refusals as refusals
-use Rattle.reading.proofs.LawsShown.{only}
 use Rattle.format.specs.Sections.{Section}
 use Rattle.format.specs.Read.{Read, accepted, refused}
 use Rattle.format.specs.DecodeContainer.{last_with, place_of}
@@ -22,12 +22,13 @@ use Rattle.format.specs.Views.{Span, and_then, payload_span, section_view}
 use Rattle.format.proofs.AfterEnd.{section-view-after}
 use Rattle.format.proofs.LawsLast.{last_some}
 use Rattle.format.proofs.Viewed.{section-viewed}
-use Rattle.container.specs.declared.ViewRead.{ViewRead}
-use Rattle.container.specs.declared.ViewRead.TheVariants as view
+use Rattle.container.specs.declared.View.{View}
+use Rattle.container.specs.declared.sections.Stopped.{Stopped}
 use Rattle.container.specs.declared.sections.SectionPlace.{SectionPlace}
 use Rattle.container.specs.Container.{held_place, nowhere, held_places, Opened, opened}
 use Rattle.container.specs.Views.{view_of, SectionAt, SectionPost}
 use Rattle.container.proofs.LawsPlaces.{held-length, held_at, place-past}
+use Rattle.container.proofs.LawsShown.{read_by-only}
 use Rattle.container.proofs.LawsOpened.{sections-opened, container-opened}
 
 -- The asked section is not there.
@@ -110,7 +111,7 @@ found file id s x n h =
     ap₂ (λ a b. accepted (record { offset = a; size = b })) (sym p.starts) (sym p.sized)
 
 -- All of the promise.
-pub section-post : (file : List ℕ) (id : ℕ) (r : ViewRead) → view_of r ≡ section_view file id → SectionPost file id r
+pub section-post : (file : List ℕ) (id : ℕ) (r : Result View Stopped) → view_of r ≡ section_view file id → SectionPost file id r
 section-post file id r e =
     record {
       answer = e;
@@ -118,23 +119,15 @@ section-post file id r e =
       complete = λ s x n h. e ∙ found file id s x n h;
     }
 
-abbrev back_view : Read Span → ViewRead
-back_view (accepted s) = view.Got (record { start = s.offset; len = s.size })
-back_view (refused c n i) = view.Stop (record { no = c; stage = n; at = i })
-
-same_view : (r : ViewRead) → back_view (view_of r) ≡ r
-same_view (view.Got v) = refl
-same_view (view.Stop x) = refl
-
 -- Two views that stand for the same are the same ..
-pub view-only : {r q : ViewRead} {g : Read Span} → view_of r ≡ g → view_of q ≡ g → r ≡ q
-view-only = only view_of back_view same_view
+pub view-only : {r q : Result View Stopped} {g : Read Span} → view_of r ≡ g → view_of q ≡ g → r ≡ q
+view-only = read_by-only _ (λ s. record { start = s.offset; len = s.size }) (λ v. refl)
 
 -- .. so the contract of a section view allows one answer.
-pub section-only : (file : List ℕ) (id : ℕ) (r q : ViewRead) → SectionPost file id r → SectionPost file id q → r ≡ q
+pub section-only : (file : List ℕ) (id : ℕ) (r q : Result View Stopped) → SectionPost file id r → SectionPost file id q → r ≡ q
 section-only file id r q x y = view-only x.answer y.answer
 
 -- Nor do other bytes after the end marker change the answer.
-pub section-after : {file other : List ℕ} → SameToEnd file other → (id : ℕ) (r q : ViewRead) → SectionPost file id r →
+pub section-after : {file other : List ℕ} → SameToEnd file other → (id : ℕ) (r q : Result View Stopped) → SectionPost file id r →
     SectionPost other id q → r ≡ q
 section-after e id r q x y = view-only x.answer (y.answer ∙ sym (section-view-after e id))

@@ -1,7 +1,7 @@
--- What the answers of header and walk stand for (document 01, "The container"), case by case.
-use Rattle.std.specs.Prelude.{ℕ, ◌%◌, false, List, [], map, eqb, length}
+-- What the answers of header and walk stand for (document 01, "The container").
+use Rattle.std.specs.Prelude.{ℕ, ◌-◌, ◌%◌, false, List, map, eqb, length, take, drop, Result, Ok, Err}
 use Rattle.std.proofs.Math.Decide.{ℕ_discrete, dec_le}
-use Rattle.exact.specs.Got.{Got, got, stop}
+use Rattle.exact.specs.Got.{Got, got}
 use Rattle.exact.specs.Exact.{Parser}
 use Rattle.exact.specs.Basic.{byte, pure}
 use Rattle.exact.specs.Sequence.{bind}
@@ -9,6 +9,9 @@ use Rattle.exact.specs.Choice.{choose}
 use Rattle.enums.specs.Container.{end_of_bytecode, section_ids}
 use Rattle.enums.specs.Refusals as refusals
 use Rattle.enums.specs.declared.BytecodeVersion.{BytecodeVersion}
+use Rattle.reading.specs.Shown.{got_by, stop_of}
+use Rattle.reading.specs.declared.Reader.{Reader}
+use Rattle.reading.specs.declared.Refused.{Refused}
 use Rattle.reading.specs.Numbers.{varint_at}
 use Rattle.format.specs.Tables.{Version}
 use Rattle.format.specs.Sections.{Section, Place}
@@ -17,26 +20,20 @@ use Rattle.format.specs.DecodeContainer.{header_at, alignment_at, sections_at, p
 use Rattle.format.specs.Decode.{most_bytes}
 use Rattle.container.specs.declared.sections.SectionPlace.{SectionPlace}
 use Rattle.container.specs.declared.sections.SectionHeader.{SectionHeader}
-use Rattle.container.specs.declared.sections.SectionHeaderRead.{SectionHeaderRead}
-use Rattle.container.specs.declared.sections.SectionHeaderRead.TheVariants as section
-use Rattle.container.specs.declared.sections.HeaderRead.{HeaderRead}
-use Rattle.container.specs.declared.sections.HeaderRead.TheVariants as header
 use Rattle.container.specs.declared.sections.RawSections.{RawSections}
-use Rattle.container.specs.declared.sections.Walked.TheVariants as walk
 use Rattle.container.specs.declared.sections.Container.{Container}
-use Rattle.container.specs.declared.sections.Judged.TheVariants as judged
+
+-- The bytes that were read from i on.
+abbrev pub got_run : List ℕ → ℕ → Result Reader Refused → Got (List ℕ)
+got_run l i (Ok r) = got (take (r.pos - i) (drop i l)) r.pos
+got_run l i (Err x) = stop_of x
 
 -- A version as the tables hold it.
 abbrev pub version_of : BytecodeVersion → Version
 version_of v = record { major = v.major; minor = v.minor; tag = v.tag }
 
-abbrev pub got_header : HeaderRead → Got Version
-got_header (header.Got v r) = got (version_of v) r.pos
-got_header (header.Stop x) = stop x.no x.at
-
-abbrev pub got_section_header : SectionHeaderRead → Got SectionHeader
-got_section_header (section.Got h r) = got h r.pos
-got_section_header (section.Stop x) = stop x.no x.at
+abbrev pub got_header : Result (BytecodeVersion × Reader) Refused → Got Version
+got_header = got_by (λ v r. version_of v)
 
 -- What stands before a section's payload: its id, and how long the payload is. The end marker's is 0.
 unfoldable pub section_header_at : Parser SectionHeader
@@ -58,10 +55,9 @@ nowhere = record { presence = false; start = 0; len = 0 }
 abbrev pub held_places : List Section → List SectionPlace
 held_places ss = map held_place (places_of ss section_ids)
 
--- The walk's answer: the places of what it met and where it ended; or a refusal, and no places.
-abbrev pub raw_sections : Got (List Section) → RawSections
-raw_sections (got ss j) = record { places = held_places ss; walked = walk.End (record { pos = j }) }
-raw_sections (stop c k) = record { places = held_places []; walked = walk.Stop (record { no = c; at = k }) }
+-- These sections as the code holds them.
+abbrev pub held_sections : List Section → RawSections
+held_sections ss = record { places = held_places ss }
 
 -- What header and walk give: the version and the sections.
 pub record Opened : Type 0 where
@@ -80,13 +76,6 @@ opened file =
 abbrev pub held_version : Version → BytecodeVersion
 held_version v = record { major = v.major; minor = v.minor; tag = v.tag }
 
--- What header and walk answer: the version and the places; or a refusal, version 0.0 and no places.
-abbrev pub held_container : Read Opened → Container
-held_container (accepted x) =
-    record { version = held_version x.version; places = held_places x.sections; judged = judged.Passed }
-held_container (refused c n i) =
-    record {
-      version = record { major = 0; minor = 0; tag = 0 };
-      places = held_places [];
-      judged = judged.Stop (record { no = c; stage = n; at = i });
-    }
+-- What header and walk give, as the code holds it: the version and the places.
+abbrev pub held_container : Opened → Container
+held_container x = record { version = held_version x.version; sections = held_sections x.sections }

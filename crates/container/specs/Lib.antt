@@ -1,2 +1,3 @@
 pub mod Container
+pub mod Shown
 pub mod Views

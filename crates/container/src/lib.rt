@@ -5,44 +5,27 @@ pub mod sections;
 
 ghost use Rattle.container.specs.Views.{SectionPost};
 
-use enums::{Refusal, Stage};
-use sections::{Judged, Stopped};
+use enums::Refusal;
+use sections::Stopped;
 
 // Bytes of a file: the offset of the first, and how many.
-#[derive(Clone, Copy)]
+#[derive(Clone, Copy, PartialEq, Eq)]
 pub struct View {
     pub start: usize,
     pub len: usize,
 }
 
-#[derive(Clone, Copy)]
-pub enum ViewRead {
-    Got(View),
-    Stop(Stopped),
-}
-
 // The view of a section: the whole payload that counts for this id.
-pub fn section(file: &[u8], id: u64) -> ViewRead
+pub fn section(file: &[u8], id: u64) -> Result<View, Stopped>
     ensures { SectionPost file.now id result }
 {
-    let container = sections::read_container(file);
-    let judged = container.judged;
-    let places = container.places;
-    match judged {
-        Judged::Stop(x) => ViewRead::Stop(x),
-        Judged::Passed => {
-            let place = sections::get(places, id);
-            if !place.presence {
-                return ViewRead::Stop(Stopped {
-                    no: Refusal::ABSENT,
-                    stage: Stage::CALL,
-                    at: 0,
-                });
-            }
-            ViewRead::Got(View {
-                start: place.start,
-                len: place.len,
-            })
-        }
+    let container = sections::read_container(file)?;
+    let place = container.sections.get(id);
+    if !place.presence {
+        return Err(Stopped::call(Refusal::Absent));
     }
+    Ok(View {
+        start: place.start,
+        len: place.len,
+    })
 }

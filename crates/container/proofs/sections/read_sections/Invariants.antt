@@ -5,7 +5,7 @@ use Rattle.container.proofs.LawsWalk.{Walk}
 use Rattle.container.proofs.sections.read_sections.Given as goal
 
 abbrev pub invariant-loop-x : goal.invariant-loop-x
-invariant-loop-x l = Walk l.data l.initial.r.pos l.r.pos l.places
+invariant-loop-x l = Walk l.data l.fn.start.pos l.r.pos l.sections.places
 
 abbrev pub decreases-loop-x : goal.decreases-loop-x
 decreases-loop-x l = length l.data - l.r.pos
