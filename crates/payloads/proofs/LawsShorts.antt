@@ -124,24 +124,6 @@ module _ (d : List ℕ) (n from : ℕ) where
           rw (e, f ∙ sym (add-zero long), u)
           (going_on 0 0 i more (omega arith) (omega arith) (rw (c, zero-add) (ap₂ (shorts d i) a b)))
 
--- The fields of a row, one by one.
-module _ (ws : List ℕ) (s : List ℕ) (i k : ℕ) where
-  pub row_more : (n : ℕ) (t : List ℕ) → length ws ≡ n → k < n → t ≡ put_word s (i + k) (get_or ws k 0) →
-      put_words s (i + k) (drop k ws) ≡ put_words t (i + (k + 1)) (drop (k + 1) ws)
-  unfolding put_words
-  row_more n t z h e =
-      let o : suc k ≡ k + 1 = omega arith in
-      let m : i + k + 1 ≡ i + (k + 1) = omega arith in
-      ap (put_words s (i + k)) (drop-cons ws k 0 (omega arith)) ∙ ap (λ t. put_words t (i + k + 1) (drop (suc k) ws)) (sym e) ∙
-      ap₂ (λ p q. put_words t p (drop q ws)) m o
-
-  pub row-begun : put_words s (i + 0) (drop 0 ws) ≡ put_words s i ws
-  row-begun = ap (λ i. put_words s i ws) (add-zero i)
-
-  pub row_done : (n : ℕ) → length ws ≡ n → n ≤ k → put_words s (i + k) (drop k ws) ≡ s
-  unfolding put_words
-  row_done n e h = ap (put_words s (i + k)) (drop_of_length-le ws {i = k} (omega arith))
-
 -- They stand behind the tag.
 pub row-tagged : (ws : List ℕ) (t w : ℕ) (s s₁ s' : List ℕ) → s₁ ≡ put_word s w t → s' ≡ put_words s₁ (w + 1) ws → s' ≡ put_words s w (t ∷ ws)
 unfolding put_words
