@@ -39,7 +39,7 @@ fn parse_attribute(entry: &[u8], sheet: &mut [u8], word: usize) -> Result<Spot, 
     requires { word + length «entry».now + 8 ≤ 2 ^ 62 }
     ensures { Row (mapped attribute_words attribute_at «entry».now 0) word sheet.old sheet.new result }
 {
-    let (tag, next) = Reader::new().read_byte(entry)?;
+    let (tag, next) = (Reader { pos: 0 }).read_byte(entry)?;
     if 7 <= tag {
         return Err(Refused {
             refusal: Refusal::DebugTag,
@@ -319,7 +319,7 @@ pub fn parse_debug_section(payload: &[u8], sheet: &mut [u8], at: Filled) -> Debu
     requires { Fits at payload.now }
     ensures { DebugFills at (debug_at payload.now 0) sheet.old sheet.new result }
 {
-    let lists = parse_array(payload, Reader::new(), Width::Four)?;
+    let lists = parse_array(payload, Reader { pos: 0 }, Width::Four)?;
     let ids = parse_array(payload, Reader { pos: lists.data }, Width::Eight)?;
     let attributes = parse_array(payload, Reader { pos: ids.data }, Width::Four)?;
     fill_debug(payload, lists, ids, attributes, sheet, at)

@@ -75,7 +75,7 @@ pub fn parse_global_section(
     requires { Fits at payload.now }
     ensures { FillsSheet at (global_rows (globals_at «class» 0 payload.now 0)) sheet.old sheet.new result }
 {
-    let (count, first) = Reader::new().read_varint(payload)?;
+    let (count, first) = (Reader { pos: 0 }).read_varint(payload)?;
     fill_globals(payload, class, first, count, sheet, at)
 }
 
@@ -131,6 +131,6 @@ pub fn parse_func_section(
     requires { Fits at payload.now }
     ensures { Fills at (function_rows (functions_at 0 payload.now 0)) sheet.old sheet.new pool.old pool.new result }
 {
-    let (count, first) = Reader::new().read_varint(payload)?;
+    let (count, first) = (Reader { pos: 0 }).read_varint(payload)?;
     fill_funcs(payload, first, count, sheet, pool, at)
 }
