@@ -1,22 +1,28 @@
 -- What the readers of Debug answer and leave in the sheet (document 01, "The sheet": attribute, tag and 6 fields; list,
 -- count and ids).
-use Rattle.std.specs.Prelude.{◌≡◌, ℕ, ◌+◌, List, ◌++◌, map, length, Result, Ok, Err}
+use Rattle.std.specs.Prelude.{◌≡◌, ℕ, ◌+◌, ◌-◌, List, ◌++◌, map, length, take, drop, Result, Ok, Err}
 use Rattle.std.proofs.Math.Option.{Option, none, some}
 use Rattle.exact.specs.Got.{Got, got, stop}
-use Rattle.exact.specs.Sequence.{bind}
-use Rattle.exact.specs.Tiling.{join, cuts}
-use Rattle.exact.specs.Entries.{rows}
+use Rattle.exact.specs.Sequence.{mapped}
+use Rattle.exact.specs.Tiling.{join}
 use Rattle.enums.specs.Numbered.{number_of}
 use Rattle.enums.specs.Refusals as refusals
 use Rattle.reading.specs.declared.Refused.{Refused}
 use Rattle.format.specs.Debug.{DebugTables}
-use Rattle.format.specs.DecodeDebug.{attribute_at, lists_at}
+use Rattle.format.specs.DecodeDebug.{attribute_at}
 use Rattle.format.specs.Sheet.{attribute_words, list_words}
 use Rattle.sheet.specs.Store.{put_words}
-use Rattle.entries.specs.Starts.{numbers_in}
-use Rattle.entries.specs.declared.starts.Starts.{Starts}
 use Rattle.payloads.specs.declared.answers.Filled.{Filled}
 use Rattle.payloads.specs.declared.debug.DebugFilled.{DebugFilled}
+use Rattle.payloads.specs.declared.entry.Entry.{Entry}
+
+-- What one attribute in the bytes l reads: the words of its row.
+abbrev pub attribute_row : List ℕ → Got (List ℕ)
+attribute_row l = mapped attribute_words attribute_at l 0
+
+-- The bytes of an entry.
+abbrev pub bytes_of : Entry → List ℕ
+bytes_of e = take (e.end - e.start) (drop e.start e.table.now)
 
 -- The words of lists, if their bounds are good.
 unfoldable pub list_rows : ℕ → Option (List (List ℕ)) → Got (List ℕ)
@@ -26,12 +32,6 @@ list_rows j (some ls) = got (join (map list_words ls)) j
 -- The words of the attributes, and then those of the lists.
 unfoldable pub debug_words : DebugTables → List ℕ
 debug_words t = join (map attribute_words t.attributes) ++ join (map list_words t.lists)
-
--- The attributes that their starts cut, and then the lists that theirs cut out of the ids.
-abbrev pub debug_from : List ℕ → Starts → Starts → Starts → Got DebugTables
-debug_from l lists ids attributes =
-    bind (rows 0 refusals.bounds 1 attribute_at (numbers_in 4 l attributes))
-    (λ found. lists_at found (cuts (numbers_in 4 l lists) (numbers_in 8 l ids))) l attributes.data
 
 -- How many attributes and lists there are and how far the stores are filled; or a refusal and its place.
 pub data DebugCount : Type 0 where

@@ -2,7 +2,6 @@
 // one by one, and then the lists.
 ghost use Rattle.std.specs.Prelude.{◌≡◌, ℕ, ◌+◌, ◌-◌, ◌*◌, ◌^◌, ◌≤◌, ◌<◌, true, false, List, ◌∷◌, length, take, drop};
 ghost use Rattle.exact.specs.Got.{got};
-ghost use Rattle.exact.specs.Sequence.{mapped};
 ghost use Rattle.exact.specs.Repeat.{times};
 ghost use Rattle.exact.specs.Fixed.{nums};
 ghost use Rattle.exact.specs.Tiling.{cuts};
@@ -14,9 +13,10 @@ ghost use Rattle.entries.specs.Starts.{Lies, numbers_in};
 ghost use Rattle.payloads.specs.Shorts.{shorts};
 ghost use Rattle.payloads.specs.Fill.{Fits};
 ghost use Rattle.payloads.specs.TypeRows.{Row, words_of, entries_by};
-ghost use Rattle.payloads.specs.DebugRows.{list_rows, debug_from, DebugFills};
+ghost use Rattle.payloads.specs.DebugRows.{attribute_row, bytes_of, list_rows, DebugFills};
 
-use crate::answers::Filled;
+use crate::answers::{Filled, raised};
+use crate::entry::Entry;
 use crate::fields::{Number, Spot, copy_numbers, put_numbers, put_value};
 use crate::rows::put_row;
 use entries::starts::{Starts, Width, first_entry, first_list, next_entry, next_list, parse_array};
@@ -37,7 +37,7 @@ pub type DebugRead = Result<DebugFilled, Refused>;
 // An attribute as a row of seven words: its tag, and six fields, 0 for those that it does not have.
 fn parse_attribute(entry: &[u8], sheet: &mut [u8], word: usize) -> Result<Spot, Refused>
     requires { word + length «entry».now + 8 ≤ 2 ^ 62 }
-    ensures { Row (mapped attribute_words attribute_at «entry».now 0) word sheet.old sheet.new result }
+    ensures { Row (attribute_row «entry».now) word sheet.old sheet.new result }
 {
     let (tag, next) = (Reader { pos: 0 }).read_byte(entry)?;
     if 7 <= tag {
@@ -46,13 +46,13 @@ fn parse_attribute(entry: &[u8], sheet: &mut [u8], word: usize) -> Result<Spot, 
             at: 0,
         });
     }
-    let count = DebugTag::field_count(u64::from(tag));
+    let count = DebugTag::field_count(tag as u64);
     let begun = Spot {
         pos: next.pos,
         word,
         value: 0,
     };
-    let first = put_value(sheet, u64::from(tag), begun);
+    let first = put_value(sheet, tag as u64, begun);
     let last = copy_numbers(entry, Number::Varint, sheet, count, first)?;
     let absent = [0; 6];
     put_row(sheet, last.word, &absent[count as usize..]);
@@ -85,12 +85,12 @@ fn ends_of(window: &[u8], size: u8) -> u8
 
 // Whether a short attribute has all of its numbers: it is enough to count the bytes that end one. The tag is one of
 // them. No says nothing: the attribute is then read.
-fn is_whole(data: &[u8], start: usize, end: usize) -> bool
-    requires start_lt_end { start < end }
-    requires end_in_bounds { end ≤ length «data».now }
-    ensures { result ≡ true → (ws : List ℕ) × (mapped attribute_words attribute_at (take (end - start) (drop start «data».now)) 0 ≡ got ws (end - start)) }
+fn is_whole(attribute: Entry) -> bool
+    ensures { result ≡ true → (ws : List ℕ) × (attribute_row (bytes_of attribute.entry) ≡ got ws (attribute.entry.end - attribute.entry.start)) }
 {
-    let size = end - start;
+    let data = attribute.table;
+    let start = attribute.start;
+    let size = attribute.end - start;
     if WINDOW < size {
         return false;
     }
@@ -123,8 +123,8 @@ fn short_fields(data: &[u8], from: usize, count: u64) -> Shorts
     let mut long: u64 = 0;
     let mut words = [0u64; 6];
     for (k, word) in words.iter_mut().enumerate() {
-        let first = u64::from(data[end]);
-        let second = u64::from(data[end + 1]);
+        let first = data[end] as u64;
+        let second = data[end + 1] as u64;
         let more = first / 128;
         let high = 128 * more * second;
         let mut value = 0;
@@ -148,13 +148,13 @@ fn put_attribute(sheet: &mut [u8], word: usize, tag: u64, fields: [u64; 6])
 }
 
 // Puts an attribute whose numbers are all short. No says nothing, and that nothing is put: the attribute is then read.
-fn put_short(data: &[u8], start: usize, end: usize, sheet: &mut [u8], word: usize) -> bool
-    requires start_lt_end { start < end }
-    requires end_in_bounds { end ≤ length «data».now }
-    requires data_bound { word + length «data».now + 8 ≤ 2 ^ 62 }
-    ensures by_index { result ≡ true → (ws : List ℕ) × (mapped attribute_words attribute_at (take (end - start) (drop start «data».now)) 0 ≡ got ws (end - start)) × (length ws ≡ 7) × (sheet.new ≡ put_words sheet.old word ws) }
+fn put_short(attribute: Entry, sheet: &mut [u8], word: usize) -> bool
+    requires { word + length attribute.table.now + 8 ≤ 2 ^ 62 }
+    ensures row { result ≡ true → (ws : List ℕ) × (attribute_row (bytes_of attribute.entry) ≡ got ws (attribute.entry.end - attribute.entry.start)) × (length ws ≡ 7) × (sheet.new ≡ put_words sheet.old word ws) }
     ensures sheet_unchanged { result ≡ false → sheet.new ≡ sheet.old }
 {
+    let data = attribute.table;
+    let start = attribute.start;
     if data.len() - start < 13 {
         return false;
     }
@@ -164,44 +164,37 @@ fn put_short(data: &[u8], start: usize, end: usize, sheet: &mut [u8], word: usiz
     }
     let count = DebugTag::field_count(tag as u64);
     let fields = short_fields(data, start + 1, count);
-    if end < fields.end {
+    if attribute.end < fields.end {
         return false;
     }
     if 0 < fields.long {
         return false;
     }
-    let words = fields.words;
-    put_attribute(sheet, word, tag as u64, words);
+    put_attribute(sheet, word, tag as u64, fields.words);
     true
 }
 
 // An attribute that the sheet has no word for, as in the pass that measures, is only looked at; one of short numbers is
 // put at once; any other is read.
-fn any_attribute(
-    data: &[u8],
-    start: usize,
-    end: usize,
-    sheet: &mut [u8],
-    word: usize,
-) -> Result<Spot, Refused>
-    requires start_lt_end { start < end }
-    requires end_in_bounds { end ≤ length «data».now }
-    requires data_bound { word + length «data».now + 8 ≤ 2 ^ 62 }
-    ensures { Row (mapped attribute_words attribute_at (take (end - start) (drop start «data».now)) 0) word sheet.old sheet.new result }
+fn any_attribute(attribute: Entry, sheet: &mut [u8], word: usize) -> Result<Spot, Refused>
+    requires { word + length attribute.table.now + 8 ≤ 2 ^ 62 }
+    ensures { Row (attribute_row (bytes_of attribute.entry)) word sheet.old sheet.new result }
 {
+    let start = attribute.start;
+    let end = attribute.end;
     let row = Spot {
         pos: end - start,
         word: word + 7,
         value: 0,
     };
     if sheet.len() / 8 <= word {
-        if is_whole(data, start, end) {
+        if is_whole(attribute) {
             return Ok(row);
         }
-    } else if put_short(data, start, end, sheet, word) {
+    } else if put_short(attribute, sheet, word) {
         return Ok(row);
     }
-    parse_attribute(&data[start..end], sheet, word)
+    parse_attribute(&attribute.table[start..end], sheet, word)
 }
 
 // Attribute by attribute: its bounds are judged, and after them its fields are read. None is empty.
@@ -215,20 +208,22 @@ fn fill_attributes(
     requires payload_bound { word + 8 * length payload.now ≤ 2 ^ 60 }
     ensures { Row (words_of attribute_words (entries_by 1 attribute_at payload.now attributes)) word sheet.old sheet.new result }
 {
+    let count = attributes.count;
     let first = attributes.first;
     let base = attributes.data;
     let run = &payload[first..base];
     let data = &payload[base..];
     let mut next = word;
     let mut from = first_entry(run, Width::Four, data.len());
-    for _ in 0..attributes.count {
+    for _ in 0..count {
         let behind = next_entry(run, Width::Four, data.len(), 1, from)?;
         let start = from.start.0;
-        let end = behind.start.0;
-        let row = any_attribute(data, start, end, sheet, next).map_err(|x| Refused {
-            refusal: x.refusal,
-            at: base + start + x.at,
-        })?;
+        let entry = Entry {
+            table: data,
+            start,
+            end: behind.start.0,
+        };
+        let row = raised(any_attribute(entry, sheet, next), base + start)?;
         next = row.word;
         from = behind;
     }
@@ -262,6 +257,7 @@ fn fill_lists(
     requires payload_bound { at.word + 3 * length payload.now + 8 ≤ 2 ^ 62 }
     ensures { Row (list_rows at.pos (cuts (numbers_in 4 payload.now lists) (numbers_in 8 payload.now ids))) at.word sheet.old sheet.new result }
 {
+    let rows = lists.count;
     let first = lists.first;
     let base = lists.data;
     let run = &payload[first..base];
@@ -271,7 +267,7 @@ fn fill_lists(
     let numbers = &payload[first_id..last_id];
     let mut word = at.word;
     let mut from = first_list(run, count);
-    for _ in 0..lists.count {
+    for _ in 0..rows {
         let behind = next_list(run, count, from)?;
         let start = from.start;
         let end = behind.start;
@@ -288,21 +284,14 @@ fn fill_lists(
     })
 }
 
-// The attributes are judged before the lists.
-fn fill_debug(
-    payload: &[u8],
-    lists: Starts,
-    ids: Starts,
-    attributes: Starts,
-    sheet: &mut [u8],
-    at: Filled,
-) -> DebugRead
-    requires lists_lie { Lies 4 payload.now lists }
-    requires ids_lie { Lies 8 payload.now ids }
-    requires attributes_lie { Lies 4 payload.now attributes }
-    requires fits { Fits at payload.now }
-    ensures { DebugFills at (debug_from payload.now lists ids attributes) sheet.old sheet.new result }
+// All arrays come first. The attributes are judged before the lists.
+pub fn parse_debug_section(payload: &[u8], sheet: &mut [u8], at: Filled) -> DebugRead
+    requires { Fits at payload.now }
+    ensures { DebugFills at (debug_at payload.now 0) sheet.old sheet.new result }
 {
+    let lists = parse_array(payload, Reader { pos: 0 }, Width::Four)?;
+    let ids = parse_array(payload, Reader { pos: lists.data }, Width::Eight)?;
+    let attributes = parse_array(payload, Reader { pos: ids.data }, Width::Four)?;
     let next = fill_attributes(payload, attributes, sheet, at.words)?;
     let last = fill_lists(payload, lists, ids, sheet, next)?;
     Ok(DebugFilled {
@@ -313,14 +302,4 @@ fn fill_debug(
             bytes: at.bytes,
         },
     })
-}
-
-pub fn parse_debug_section(payload: &[u8], sheet: &mut [u8], at: Filled) -> DebugRead
-    requires { Fits at payload.now }
-    ensures { DebugFills at (debug_at payload.now 0) sheet.old sheet.new result }
-{
-    let lists = parse_array(payload, Reader { pos: 0 }, Width::Four)?;
-    let ids = parse_array(payload, Reader { pos: lists.data }, Width::Eight)?;
-    let attributes = parse_array(payload, Reader { pos: ids.data }, Width::Four)?;
-    fill_debug(payload, lists, ids, attributes, sheet, at)
 }

@@ -4,6 +4,7 @@
 
 mod answers;
 mod debug;
+mod entry;
 mod fields;
 mod indices;
 mod pass;
