@@ -185,26 +185,26 @@ with_debug g x =
 abbrev pub begun : Begun
 begun = record { tables = []; value = 0 }
 
-module _ (file : List ℕ) (k : Container) where
-  -- The place of a section's payload.
-  abbrev pub place_at : Section → SectionPlace
-  place_at s = get_or k.sections.places (id_of s) nowhere
+-- The place of a section's payload.
+abbrev pub place_at : Container → Section → SectionPlace
+place_at k s = get_or k.sections.places (id_of s) nowhere
 
+module _ (file : List ℕ) (k : Container) where
   -- A table behind what is read.
   abbrev pub table_step : Table → Begun → Read Begun
   table_step t =
-      with_table (stage_number (stage_of t)) (in_place file (place_at (section_of t)) (table_in t (class (version_of k.version))) no_rows)
+      with_table (stage_number (stage_of t)) (in_place file (place_at k (section_of t)) (table_in t (class (version_of k.version))) no_rows)
 
   -- String and Producer ..
   unfoldable pub named : Read Begun
-  named = and_then (table_step Strings begun) (with_producer file (place_at section.Producer))
+  named = and_then (table_step Strings begun) (with_producer file (place_at k section.Producer))
 
   -- .. and then Type, Constant, Global, Func and Debug.
   unfoldable pub passed : Read Begun
   passed =
       and_then
       (and_then (and_then (and_then (and_then named (table_step Types)) (table_step Constants)) (table_step Globals)) (table_step Functions))
-      (with_debug (in_place file (place_at section.Debug) (λ l. debug_at l 0) no_debug))
+      (with_debug (in_place file (place_at k section.Debug) (λ l. debug_at l 0) no_debug))
 
 -- Words 0 to 4.
 abbrev pub head_words : Version → ℕ → ℕ → List ℕ

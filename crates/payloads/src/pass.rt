@@ -29,7 +29,7 @@ ghost use Rattle.payloads.specs.Pass.{
 };
 
 use crate::Need;
-use crate::answers::{Filled, TableRead};
+use crate::answers::{Filled, TableRead, raised, staged};
 use crate::debug::{DebugFilled, DebugRead, parse_debug_section};
 use crate::rows::{parse_func_section, parse_global_section, put_row};
 use crate::source::Source;
@@ -92,6 +92,7 @@ fn put_table(sheet: &mut [u8], contents: usize, start: usize, rows: usize)
 }
 
 // A table by its own reader.
+#[tactic(auto, unfolding(crate::specs::Pass::table_in), using(crate::proofs::LawsPass::types_fill))]
 fn parse_table(
     table: Table,
     payload: &[u8],
@@ -121,12 +122,13 @@ fn read_table(
     at: Filled,
 ) -> TableRead
     requires { Fits at source.file.now }
-    ensures { Fills at (in_place source.file.now (place_at source.container (section_of table)) (table_in table (class (version_of source.container.version))) no_rows) sheet.old sheet.new pool.old pool.new result }
+    ensures { Fills at (in_place source.entry.file.now (place_at source.entry.container (section_of table)) (table_in table (class (version_of source.entry.container.version))) no_rows) sheet.old sheet.new pool.old pool.new result }
 {
     match source.payload(table.section()) {
         None => Ok((0, at)),
-        Some(payload) => parse_table(table, payload.bytes, source.class(), sheet, pool, at).map_err(
-            |x| payload.raised(x),
+        Some(payload) => raised(
+            parse_table(table, payload.bytes, source.class(), sheet, pool, at),
+            payload.start,
         ),
     }
 }
@@ -140,27 +142,22 @@ fn fill_table(
     at: Filled,
 ) -> Result<(usize, Filled), Stopped>
     requires { Fits at source.file.now }
-    ensures { (n : ℕ) → Goes (number_of table) (number_of table + 1) (table_step source.file.now source.container table) (Ok (at, n)) sheet.old sheet.new pool.old pool.new (table_found result) }
+    ensures { (n : ℕ) → Goes (number_of table) (number_of table + 1) (table_step source.entry.file.now source.entry.container table) (Ok (at, n)) sheet.old sheet.new pool.old pool.new (table_found result) }
 {
-    let (rows, next) = read_table(table, source, sheet, pool, at).map_err(|x| Stopped::at_stage(
-        x,
-        table.stage(),
-    ))?;
+    let (rows, next) = staged(read_table(table, source, sheet, pool, at), table.stage())?;
     put_table(sheet, table.contents(), at.words, rows);
     Ok((rows, next))
 }
 
 // The producer's word: its index and 1, or 0 where none is named. It is one of the strings, which have been counted.
 fn fill_producer(source: Source, strings: usize) -> Result<u64, Stopped>
-    ensures { (at : Filled) (s p : List ℕ) → Goes 1 1 (with_producer source.file.now (place_at source.container section.Producer)) (Ok (at, strings)) s s p p (word_found at result) }
+    ensures { (at : Filled) (s p : List ℕ) → Goes 1 1 (with_producer source.entry.file.now (place_at source.entry.container section.Producer)) (Ok (at, strings)) s s p p (word_found at result) }
 {
     match source.payload(Section::Producer) {
         None => Ok(0),
         Some(payload) => {
-            let index = parse_producer(payload.bytes, strings).map_err(|x| Stopped::at_stage(
-                payload.raised(x),
-                Stage::Producer,
-            ))?;
+            let found = raised(parse_producer(payload.bytes, strings), payload.start);
+            let index = staged(found, Stage::Producer)?;
             Ok(index + 1)
         }
     }
@@ -169,7 +166,7 @@ fn fill_producer(source: Source, strings: usize) -> Result<u64, Stopped>
 // The Debug section, as read_table reads a table.
 fn read_debug(source: Source, sheet: &mut [u8], at: Filled) -> DebugRead
     requires { Fits at source.file.now }
-    ensures { DebugFills at (in_place source.file.now (place_at source.container section.Debug) (λ l. debug_at l 0) no_debug) sheet.old sheet.new result }
+    ensures { DebugFills at (in_place source.entry.file.now (place_at source.entry.container section.Debug) (λ l. debug_at l 0) no_debug) sheet.old sheet.new result }
 {
     match source.payload(Section::Debug) {
         None => Ok(DebugFilled {
@@ -177,18 +174,16 @@ fn read_debug(source: Source, sheet: &mut [u8], at: Filled) -> DebugRead
             lists: 0,
             filled: at,
         }),
-        Some(payload) => {
-            parse_debug_section(payload.bytes, sheet, at).map_err(|x| payload.raised(x))
-        }
+        Some(payload) => raised(parse_debug_section(payload.bytes, sheet, at), payload.start),
     }
 }
 
 // Two tables more. The rows of attributes have seven words each, and those of the lists stand behind them.
 fn fill_debug(source: Source, sheet: &mut [u8], at: Filled) -> Result<Filled, Stopped>
     requires { Fits at source.file.now }
-    ensures { (n : ℕ) (p : List ℕ) → Goes 5 7 (with_debug (in_place source.file.now (place_at source.container section.Debug) (λ l. debug_at l 0) no_debug)) (Ok (at, n)) sheet.old sheet.new p p (debug_found result) }
+    ensures { (n : ℕ) (p : List ℕ) → Goes 5 7 (with_debug (in_place source.entry.file.now (place_at source.entry.container section.Debug) (λ l. debug_at l 0) no_debug)) (Ok (at, n)) sheet.old sheet.new p p (debug_found result) }
 {
-    let debug = read_debug(source, sheet, at).map_err(|x| Stopped::at_stage(x, Stage::Debug))?;
+    let debug = staged(read_debug(source, sheet, at), Stage::Debug)?;
     put_table(sheet, 15, at.words, debug.attributes);
     put_table(sheet, 17, at.words + debug.attributes * 7, debug.lists);
     Ok(debug.filled)
@@ -210,7 +205,7 @@ fn put_head(sheet: &mut [u8], version: BytecodeVersion, producer: u64, bytes: us
 
 // The payloads of a file, in reading order, and then the words that only all of them give.
 pub fn fill(source: Source, sheet: &mut [u8], pool: &mut [u8]) -> Result<Need, Stopped>
-    ensures { PassPost source.file.now sheet.old sheet.new pool.old pool.new result }
+    ensures { PassPost source.entry.file.now sheet.old sheet.new pool.old pool.new result }
 {
     let begun = Filled {
         words: 19,

@@ -6,7 +6,6 @@ ghost use Rattle.container.specs.Container.{opened, held_container};
 
 use container::sections::Container;
 use enums::{Section, VersionClass};
-use reading::Refused;
 
 // A file, and what its header and sections say.
 #[derive(Clone, Copy)]
@@ -25,22 +24,21 @@ pub struct Payload<'a> {
 }
 
 impl<'a> Source<'a> {
-    ghost use Rattle.enums.specs.Numbered.{id_of};
     ghost use Rattle.format.specs.Explains.{class};
-    ghost use Rattle.container.specs.Container.{version_of, nowhere};
-    ghost use Rattle.payloads.specs.Pass.{Stands};
+    ghost use Rattle.container.specs.Container.{version_of};
+    ghost use Rattle.payloads.specs.Pass.{Stands, place_at};
 
     pub fn class(self) -> VersionClass
-        ensures { result ≡ class (version_of self.container.version) }
+        ensures { result ≡ class (version_of self.entry.container.version) }
     {
         self.container.version.class()
     }
 
     // The payload that counts for a section, if one is present.
     pub fn payload(self, section: Section) -> Option<Payload<'a>>
-        ensures { Stands self.file.now (get_or self.container.sections.places (id_of section) nowhere) result }
+        ensures { Stands self.entry.file.now (place_at self.entry.container section) result }
     {
-        let place = self.container.sections.get(u64::from(section.id()));
+        let place = self.container.sections.get(section.id() as u64);
         if !place.presence {
             return None;
         }
@@ -48,18 +46,5 @@ impl<'a> Source<'a> {
         let end = start + place.len;
         let bytes = &self.file[start..end];
         Some(Payload { bytes, start })
-    }
-}
-
-impl Payload<'_> {
-    // What is refused in the payload, with its place in the file.
-    pub fn raised(self, x: Refused) -> Refused
-        requires { x.at ≤ length self.bytes.now }
-        ensures { result ≡ record { refusal = x.refusal; at = self.start + x.at } }
-    {
-        Refused {
-            refusal: x.refusal,
-            at: self.start + x.at,
-        }
     }
 }
