@@ -77,6 +77,10 @@ within-then : (l : List ℕ) (n m i w : ℕ) (u : Spot) (r : Result Spot Refused
 within-then l n m i w u (Ok t) h x = (x.0, omega (arith, x.1))
 within-then l n m i w u (Err y) h x = x
 
+pub within-most : (l : List ℕ) (i w n m : ℕ) (r : Result Spot Refused) → n ≤ m → Within l i w n r → Within l i w m r
+within-most l i w n m (Ok t) h x = (x.0, omega (arith, x.1))
+within-most l i w n m (Err y) h x = x
+
 module _ (p : Parser (ℕ × List ℕ)) (q : ℕ → Parser (ℕ × List ℕ)) (l s : List ℕ) (t : Spot) where
   module _ (s₁ s₂ : List ℕ) (u : Spot) (r : Result Spot Refused) (vs : List ℕ) (a : p l t.pos ≡ got (u.value, vs) u.pos)
       (b : u.word ≡ t.word + length vs) (h : s₁ ≡ put_words s t.word vs) where
@@ -119,6 +123,11 @@ pub step-same : {n : ℕ} (p q : Parser (ℕ × List ℕ)) {l s s' : List ℕ} {
     Step n p l t s s' r → Step n q l t s s' r
 step-same p q {s = s} {s' = s'} {t = t} {r = r} e x =
     record { put = subst (λ g. Put g t.word s s' r) e x.put; within = x.within }
+
+-- More words may be put than were.
+pub step-most : {n : ℕ} (m : ℕ) {p : Parser (ℕ × List ℕ)} {l s s' : List ℕ} {t : Spot} {r : Result Spot Refused} → n ≤ m →
+    Step n p l t s s' r → Step m p l t s s' r
+step-most {n} m {l = l} {t = t} {r = r} h x = record { put = x.put; within = within-most l t.pos t.word n m r h x.within }
 
 -- A field that is there is read, and an absent one is 0.
 pub field-there : (p : Parser ℕ) {there : Bool} → there ≡ true → field_if there p ≡ p
