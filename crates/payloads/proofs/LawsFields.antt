@@ -72,7 +72,7 @@ unfoldable pub then : Parser (ℕ × List ℕ) → (ℕ → Parser (ℕ × List 
 then p q = bind p (λ a. mapped (λ b. (b.0, a.1 ++ b.1)) (q a.0))
 
 -- As many words as bytes, and some more, behind as many.
-within-then : (l : List ℕ) (n m i w : ℕ) (u : Spot) (r : Result Spot Refused) → u.word + i ≤ w + u.pos + n →
+pub within-then : (l : List ℕ) (n m i w : ℕ) (u : Spot) (r : Result Spot Refused) → u.word + i ≤ w + u.pos + n →
     Within l u.pos u.word m r → Within l i w (n + m) r
 within-then l n m i w u (Ok t) h x = (x.0, omega (arith, x.1))
 within-then l n m i w u (Err y) h x = x
@@ -296,13 +296,16 @@ module _ (k : Number) (l : List ℕ) (i : ℕ) where
   pub list_same : then (as_word varint_at) (λ n. numbers n n k) l i ≡ listed k l i
   list_same = list_count (varint_at l i) refl
 
-module _ (k : Number) {n : ℕ} {l s s₁ s' : List ℕ} {t : Spot} where
-  -- A count and then as many numbers are a list ..
-  pub list-then : {m : ℕ} {u : Spot} {r : Result Spot Refused} → Step n (as_word varint_at) l t s s₁ (Ok u) →
-      Step m (numbers u.value u.value k) l u s₁ s' r → Step (n + m) (listed k) l t s s' r
-  list-then x y =
-      step-same (then (as_word varint_at) (λ n. numbers n n k)) (listed k) (list_same k l t.pos) (step-then (as_word varint_at) (λ n. numbers n n k) x y)
+-- A count and then as many numbers are a list ..
+pub list-then : (k : Number) {n m : ℕ} {l s s₁ s' : List ℕ} {t u : Spot} {r : Result Spot Refused} → Step n (as_word varint_at) l t s s₁ (Ok u) →
+    Step m (numbers u.value u.value k) l u s₁ s' r → Step (n + m) (listed k) l t s s' r
+list-then k {l = l} {t = t} x y =
+    step-same (then (as_word varint_at) (λ n. numbers n n k)) (listed k) (list_same k l t.pos)
+    (step-then (as_word varint_at) (λ n. numbers n n k) x y)
 
-  -- .. or the count was refused.
-  pub list-stop : {x : Refused} → Step n (as_word varint_at) l t s s₁ (Err x) → Step n (listed k) l t s s' (Err x)
-  list-stop y = step-same (then (as_word varint_at) (λ n. numbers n n k)) (listed k) (list_same k l t.pos) (step-stop (as_word varint_at) (λ n. numbers n n k) y)
+-- .. or the count was refused.
+pub list-stop : (k : Number) {n : ℕ} {l s s' : List ℕ} {t : Spot} {x : Refused} → Step n (as_word varint_at) l t s s' (Err x) →
+    Step n (listed k) l t s s' (Err x)
+list-stop k {l = l} {t = t} y =
+    step-same (then (as_word varint_at) (λ n. numbers n n k)) (listed k) (list_same k l t.pos)
+    (step-stop (as_word varint_at) (λ n. numbers n n k) y)
