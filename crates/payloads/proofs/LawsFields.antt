@@ -72,10 +72,14 @@ unfoldable pub then : Parser (ℕ × List ℕ) → (ℕ → Parser (ℕ × List 
 then p q = bind p (λ a. mapped (λ b. (b.0, a.1 ++ b.1)) (q a.0))
 
 -- As many words as bytes, and some more, behind as many.
-within-then : (l : List ℕ) (n m i w : ℕ) (u : Spot) (r : Result Spot Refused) → u.word + i ≤ w + u.pos + n →
+pub within-then : (l : List ℕ) (n m i w : ℕ) (u : Spot) (r : Result Spot Refused) → u.word + i ≤ w + u.pos + n →
     Within l u.pos u.word m r → Within l i w (n + m) r
 within-then l n m i w u (Ok t) h x = (x.0, omega (arith, x.1))
 within-then l n m i w u (Err y) h x = x
+
+pub within-most : (l : List ℕ) (i w n m : ℕ) (r : Result Spot Refused) → n ≤ m → Within l i w n r → Within l i w m r
+within-most l i w n m (Ok t) h x = (x.0, omega (arith, x.1))
+within-most l i w n m (Err y) h x = x
 
 module _ (p : Parser (ℕ × List ℕ)) (q : ℕ → Parser (ℕ × List ℕ)) (l s : List ℕ) (t : Spot) where
   module _ (s₁ s₂ : List ℕ) (u : Spot) (r : Result Spot Refused) (vs : List ℕ) (a : p l t.pos ≡ got (u.value, vs) u.pos)
@@ -119,6 +123,11 @@ pub step-same : {n : ℕ} (p q : Parser (ℕ × List ℕ)) {l s s' : List ℕ} {
     Step n p l t s s' r → Step n q l t s s' r
 step-same p q {s = s} {s' = s'} {t = t} {r = r} e x =
     record { put = subst (λ g. Put g t.word s s' r) e x.put; within = x.within }
+
+-- More words may be put than were.
+pub step-most : {n : ℕ} (m : ℕ) {p : Parser (ℕ × List ℕ)} {l s s' : List ℕ} {t : Spot} {r : Result Spot Refused} → n ≤ m →
+    Step n p l t s s' r → Step m p l t s s' r
+step-most {n} m {l = l} {t = t} {r = r} h x = record { put = x.put; within = within-most l t.pos t.word n m r h x.within }
 
 -- A field that is there is read, and an absent one is 0.
 pub field-there : (p : Parser ℕ) {there : Bool} → there ≡ true → field_if there p ≡ p
@@ -287,13 +296,16 @@ module _ (k : Number) (l : List ℕ) (i : ℕ) where
   pub list_same : then (as_word varint_at) (λ n. numbers n n k) l i ≡ listed k l i
   list_same = list_count (varint_at l i) refl
 
-module _ (k : Number) {n : ℕ} {l s s₁ s' : List ℕ} {t : Spot} where
-  -- A count and then as many numbers are a list ..
-  pub list-then : {m : ℕ} {u : Spot} {r : Result Spot Refused} → Step n (as_word varint_at) l t s s₁ (Ok u) →
-      Step m (numbers u.value u.value k) l u s₁ s' r → Step (n + m) (listed k) l t s s' r
-  list-then x y =
-      step-same (then (as_word varint_at) (λ n. numbers n n k)) (listed k) (list_same k l t.pos) (step-then (as_word varint_at) (λ n. numbers n n k) x y)
+-- A count and then as many numbers are a list ..
+pub list-then : (k : Number) {n m : ℕ} {l s s₁ s' : List ℕ} {t u : Spot} {r : Result Spot Refused} → Step n (as_word varint_at) l t s s₁ (Ok u) →
+    Step m (numbers u.value u.value k) l u s₁ s' r → Step (n + m) (listed k) l t s s' r
+list-then k {l = l} {t = t} x y =
+    step-same (then (as_word varint_at) (λ n. numbers n n k)) (listed k) (list_same k l t.pos)
+    (step-then (as_word varint_at) (λ n. numbers n n k) x y)
 
-  -- .. or the count was refused.
-  pub list-stop : {x : Refused} → Step n (as_word varint_at) l t s s₁ (Err x) → Step n (listed k) l t s s' (Err x)
-  list-stop y = step-same (then (as_word varint_at) (λ n. numbers n n k)) (listed k) (list_same k l t.pos) (step-stop (as_word varint_at) (λ n. numbers n n k) y)
+-- .. or the count was refused.
+pub list-stop : (k : Number) {n : ℕ} {l s s' : List ℕ} {t : Spot} {x : Refused} → Step n (as_word varint_at) l t s s' (Err x) →
+    Step n (listed k) l t s s' (Err x)
+list-stop k {l = l} {t = t} y =
+    step-same (then (as_word varint_at) (λ n. numbers n n k)) (listed k) (list_same k l t.pos)
+    (step-stop (as_word varint_at) (λ n. numbers n n k) y)
