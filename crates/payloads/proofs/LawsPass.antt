@@ -20,7 +20,7 @@ use Rattle.format.specs.Read.{Read, accepted, refused, at_stage, map_read}
 use Rattle.format.specs.Views.{and_then}
 use Rattle.format.specs.Decode.{most_bytes}
 use Rattle.format.specs.Sound.{All, Fits}
-use Rattle.format.proofs.Decoded.{refused-not-accepted}
+use Rattle.format.proofs.Decoded.{accepted-value, refused-not-accepted}
 use Rattle.container.specs.Shown.{refused_of, stopped_at}
 use Rattle.container.specs.declared.sections.SectionPlace.{SectionPlace}
 use Rattle.container.specs.declared.sections.Stopped.{Stopped}
@@ -121,7 +121,7 @@ stopped-as (refused c n i) x e = cc e
 pub got-as : (b : Read Begun) (at : Filled) (v : ℕ) → accepted (at, v) ≡ pass_of b →
     (x : Begun) × (b ≡ accepted x) × (at ≡ filled_of x.tables) × (v ≡ x.value)
 unfolding map_read
-got-as (accepted y) at v e = let q : (at, v) ≡ (filled_of y.tables, y.value) = cc e in (y, refl, ap (λ z. z.0) q, ap (λ z. z.1) q)
+got-as (accepted y) at v e = let q = accepted-value e in (y, refl, ap (λ z. z.0) q, ap (λ z. z.1) q)
 got-as (refused c n i) at v e = absurd (refused-not-accepted (sym e))
 
 -- The step k reads z behind y, from the stores s and p to s' and p'.
@@ -228,11 +228,12 @@ table-goes num stage g at val {s} {s₁} {s'} {p} {p'} rows next room f bound he
     })
 
 -- A table that is refused.
-pub table-refused : (n m : ℕ) (stage : Stage) (g : Got Rows) (at : Filled) (v : ℕ) {s s' p p' : List ℕ} (x : Refused) → g ≡ stop_of x →
-    Goes n m (with_table (stage_number stage) g) (Ok (at, v)) s s' p p' (Err (stopped_at x stage))
+pub table-refused : (n m : ℕ) (stage k : Stage) (g : Got Rows) (at : Filled) (v : ℕ) {s s' p p' : List ℕ} (x : Refused) → g ≡ stop_of x → k ≡ stage →
+    Goes n m (with_table (stage_number stage) g) (Ok (at, v)) s s' p p' (Err (stopped_at x k))
 unfolding with_table at_stage
-table-refused n m stage g at v x e =
-    goes-refused n m (with_table (stage_number stage) g) at v (stopped_at x stage) (λ y t. ap (λ z. with_table (stage_number stage) z y) e)
+table-refused n m stage k g at v x e same =
+    goes-refused n m (with_table (stage_number stage) g) at v (stopped_at x k)
+    (λ y t. ap (λ z. with_table (stage_number stage) z y) e ∙ ap (λ k. refused_of (stopped_at x k)) (sym same))
 
 -- There is room for a payload where there is room for the file.
 pub part-fits : (at : Filled) (file l : List ℕ) → length l ≤ length file → fill.Fits at file → fill.Fits at l

@@ -92,7 +92,7 @@ fn put_table(sheet: &mut [u8], contents: usize, start: usize, rows: usize)
 }
 
 // A table by its own reader.
-#[tactic(auto, unfolding(crate::specs::Pass::table_in), using(crate::proofs::LawsPass::types_fill))]
+#[tactic(auto, unfolding(crate::specs::Pass::table_in))]
 fn parse_table(
     table: Table,
     payload: &[u8],

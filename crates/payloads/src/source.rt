@@ -1,5 +1,5 @@
 // A file whose header and sections were read, and the payloads of its sections.
-ghost use Rattle.std.specs.Prelude.{◌≡◌, ◌+◌, ◌≤◌, length, get_or};
+ghost use Rattle.std.specs.Prelude.{◌≡◌, ℕ, ◌+◌, ◌≤◌, ◌<◌, length, get_or};
 ghost use Rattle.format.specs.Read.{accepted, map_read};
 ghost use Rattle.format.specs.Decode.{most_bytes};
 ghost use Rattle.container.specs.Container.{opened, held_container};
@@ -13,6 +13,7 @@ pub struct Source<'a> {
     pub file: &'a [u8],
     pub container: Container,
     ghost read: { accepted container ≡ map_read held_container (opened file.now) },
+    ghost bytes: { (i : ℕ) → get_or file.now i 0 < 256 },
 }
 
 // The payload of a section, and where it starts in the file.
