@@ -153,14 +153,12 @@ fn fill_table(
 fn fill_producer(source: Source, strings: usize) -> Result<u64, Stopped>
     ensures { (at : Filled) (s p : List ℕ) → Goes 1 1 (with_producer source.entry.file.now (place_at source.entry.container section.Producer)) (Ok (at, strings)) s s p p (word_found at result) }
 {
-    match source.payload(Section::Producer) {
-        None => Ok(0),
-        Some(payload) => {
-            let found = raised(parse_producer(payload.bytes, strings), payload.start);
-            let index = staged(found, Stage::Producer)?;
-            Ok(index + 1)
-        }
-    }
+    let Some(payload) = source.payload(Section::Producer) else {
+        return Ok(0);
+    };
+    let found = raised(parse_producer(payload.bytes, strings), payload.start);
+    let index = staged(found, Stage::Producer)?;
+    Ok(index + 1)
 }
 
 // The Debug section, as read_table reads a table.
