@@ -53,14 +53,14 @@ module _ (l s p : List ℕ) where
     same-pool : b ++ p ≡ p
     same-pool = none_before b p x.pool
 
+  module _ {a b : List ℕ} where
     -- The first pass is refused ..
-    pub reads-stop : (z : Stopped) → m ≡ Err z → Reads l s (a ++ s) p (b ++ p) (Err z)
-    reads-stop z e =
-        reads-stopped z (map-refused need_of (decode l) _ _ z.at (sym x.answer ∙ ap file_read e)) (a ++ s) (b ++ p) same-sheet same-pool
+    pub reads-stop : (z : Stopped) → First l a b (Err z) → Reads l s (a ++ s) p (b ++ p) (Err z)
+    reads-stop z x = reads-stopped z (map-refused need_of (decode l) _ _ z.at (sym x.answer)) (a ++ s) (b ++ p) (same-sheet x) (same-pool x)
 
-    module _ (n : Need) (e : m ≡ Ok n) where
+    module _ (n : Need) (x : First l a b (Ok n)) where
       measured : (t : Tables) × (decode l ≡ accepted t) × (need_of t ≡ n)
-      measured = map-inv need_of (decode l) n (sym x.answer ∙ ap file_read e)
+      measured = map-inv need_of (decode l) n (sym x.answer)
 
       asked : (t : Tables) → need_of t ≡ n → (length (sheet_of t) ≡ n.words) × (length (pool_of t) ≡ n.bytes)
       unfolding need_of
@@ -77,9 +77,9 @@ module _ (l s p : List ℕ) where
           let (t, d, o) = measured in
           let (w, k) = asked t o in
           let small : (length s / 8 < length (sheet_of t)) ⊎ (length p < length (pool_of t)) =
-          rw (w, k) (rw (same-sheet, same-pool) at h) in
+          rw (w, k) (rw (same-sheet x, same-pool x) at h) in
           reads-refused (a ++ s) (b ++ p) (stopped_call Full)
-          (into t d ∙ stored-small (length s / 8) (length p) t small) same-sheet same-pool
+          (into t d ∙ stored-small (length s / 8) (length p) t small) (same-sheet x) (same-pool x)
 
       -- .. or not, and the second pass fills.
       filled : (s' p' : List ℕ) (r : Result Need Stopped) → n.words ≤ length s / 8 → n.bytes ≤ length p → PassPost l s s' p p' r →
@@ -100,7 +100,7 @@ module _ (l s p : List ℕ) where
       pub reads-filled : (s' p' : List ℕ) → n.words ≤ length (a ++ s) / 8 → n.bytes ≤ length (b ++ p) → (r : Result Need Stopped) →
           PassPost l (a ++ s) s' (b ++ p) p' r → Reads l s s' p p' r
       reads-filled s' p' hw hb r y =
-          filled s' p' r (rw same-sheet at hw) (rw same-pool at hb) (rw (same-sheet, same-pool) at y)
+          filled s' p' r (rw (same-sheet x) at hw) (rw (same-pool x) at hb) (rw (same-sheet x, same-pool x) at y)
 
 -- Two answers that stand for the same are the same: so the contract of `measure` allows one answer ..
 pub file-only : {r q : Result Need Stopped} {g : Read Need} → file_read r ≡ g → file_read q ≡ g → r ≡ q
