@@ -1,10 +1,10 @@
 -- One step of copying fields after another, and what each step leaves. Assumes nothing.
 use mathlib.Core.Path.{◌≡◌, refl, sym, ap, ◌∙◌, subst}
-use Prim.Native.Nat.{ℕ, zero, suc, ◌+◌, ◌-◌, ◌≤◌, ◌<◌}
+use Prim.Native.Nat.{ℕ, zero, suc, ◌+◌, ◌-◌, ◌%◌, ◌≤◌, ◌<◌}
 use native.Mathlib.Nat.{add-zero}
-use native.Mathlib.Decide.{dec_le}
+use native.Mathlib.Decide.{dec_le, ℕ_discrete}
 use native.Mathlib.Omega.{arith}
-use mathlib.Core.Bool.{Bool, true, false}
+use mathlib.Core.Bool.{Bool, false}
 use mathlib.Core.List.{List, [], ◌∷◌, ◌++◌}
 use lib.ListN.{length, length-append}
 use Rattle.std.specs.Prelude.{Result, Ok, Err}
@@ -24,7 +24,9 @@ use Rattle.reading.proofs.LawsWord.{fixed-one}
 use Rattle.reading.specs.Numbers.{digits, varint_at}
 use Rattle.reading.specs.Shown.{stop_of}
 use Rattle.reading.specs.declared.Refused.{Refused}
+use Rattle.exact.proofs.LawsChoice.{choose_yes, choose_no}
 use Rattle.format.specs.DecodeTables.{field_at}
+use Rattle.format.specs.DecodeTypes.{byte_if}
 use Rattle.sheet.specs.Store.{put_word, put_words}
 use Rattle.sheet.proofs.LawsStore.{put_words-append}
 use Rattle.payloads.specs.declared.fields.Number.{Number}
@@ -124,19 +126,18 @@ pub step-same : {n : ℕ} (p q : Parser (ℕ × List ℕ)) {l s s' : List ℕ} {
 step-same p q {s = s} {s' = s'} {t = t} {r = r} e x =
     record { put = subst (λ g. Put g t.word s s' r) e x.put; within = x.within }
 
--- More words may be put than were.
-pub step-most : {n : ℕ} (m : ℕ) {p : Parser (ℕ × List ℕ)} {l s s' : List ℕ} {t : Spot} {r : Result Spot Refused} → n ≤ m →
-    Step n p l t s s' r → Step m p l t s s' r
-step-most {n} m {l = l} {t = t} {r = r} h x = record { put = x.put; within = within-most l t.pos t.word n m r h x.within }
-
--- A field that is there is read, and an absent one is 0.
-pub field-there : (p : Parser ℕ) {there : Bool} → there ≡ true → field_if there p ≡ p
-unfolding field_if field_at choose
-field-there p e = rw e
-
-pub field-absent : (p : Parser ℕ) {there : Bool} (l : List ℕ) (i : ℕ) → there ≡ false → field_if there p l i ≡ got 0 i
+-- A field that is absent is 0, and one that is there is read.
+pub field-absent : (p : Parser ℕ) {there : Bool} (l : List ℕ) (i : ℕ) → there ≡ false → got 0 i ≡ field_if there p l i
 unfolding field_if field_at choose pure
 field-absent p l i e = rw e
+
+pub byte-absent : (flags : ℕ) (l : List ℕ) (i : ℕ) → ¬ (flags % 2 ≡ 1) → got 0 i ≡ byte_if flags l i
+unfolding byte_if field_at pure
+byte-absent flags l i h = ap (λ (p : Parser ℕ). p l i) (sym (choose_no (ℕ_discrete (flags % 2) 1) _ _ h))
+
+pub byte-there : (flags : ℕ) → flags % 2 ≡ 1 → number_at Byte ≡ byte_if flags
+unfolding byte_if field_at number_at
+byte-there flags h = sym (choose_yes (ℕ_discrete (flags % 2) 1) _ _ h)
 
 -- A number that was read takes a byte at least, and ends inside.
 fixed_in : (w : ℕ) (l : List ℕ) (i v j : ℕ) → 0 < w → got v j ≡ fixed w l i → (i < j) × (j ≤ length l)
@@ -173,49 +174,38 @@ number-stop Byte l i c m e = fixed-stop 1 l i c m (sym (fixed-one l i) ∙ e)
 number-stop I32 l i c m e = fixed-stop 4 l i c m e
 number-stop I64 l i c m e = fixed-stop 8 l i c m e
 
-module _ (k : Number) (there : Bool) (l s s' : List ℕ) (at : Spot) where
-  -- One number was put ..
-  one-put : (v j : ℕ) (t : Spot) → field_if there (number_at k) l at.pos ≡ got v j → s' ≡ put_word s at.word v →
-      t ≡ record { pos = j; word = at.word + 1; value = v } →
-      Put (as_word (field_if there (number_at k)) l at.pos) at.word s s' (Ok t)
+-- One number was put: a 0 for an absent one, ..
+module _ (p : Parser ℕ) (l s s' : List ℕ) (at : Spot) where
+  one-put : (v j : ℕ) (t : Spot) → got v j ≡ p l at.pos → s' ≡ put_word s at.word v →
+      t ≡ record { pos = j; word = at.word + 1; value = v } → Put (as_word p l at.pos) at.word s s' (Ok t)
   unfolding put_words Put as_word
   one-put v j t g h q =
-      let m : as_word (field_if there (number_at k)) l at.pos ≡ got (v, v ∷ []) j =
-      map-got (λ v. (v, v ∷ [])) (field_if there (number_at k)) l at.pos v j g in
+      let m : as_word p l at.pos ≡ got (v, v ∷ []) j = map-got (λ v. (v, v ∷ [])) p l at.pos v j (sym g) in
       subst (λ g. Put g at.word s s' (Ok t)) (sym m) (ap Ok q, h)
 
-  -- .. where it is absent ..
-  pub one-absent : (t : Spot) → at.pos ≤ length l → there ≡ false → s' ≡ put_word s at.word 0 →
-      t ≡ record { pos = at.pos; word = at.word + 1; value = 0 } →
-      Step 1 (as_word (field_if there (number_at k))) l at s s' (Ok t)
-  one-absent t h a p q =
+  pub one-absent : (t : Spot) → at.pos ≤ length l → got 0 at.pos ≡ p l at.pos → s' ≡ put_word s at.word 0 →
+      t ≡ record { pos = at.pos; word = at.word + 1; value = 0 } → Step 1 (as_word p) l at s s' (Ok t)
+  one-absent t low e h q =
       let b = ap (λ t. t.pos) q in
       let c = ap (λ t. t.word) q in
-      record {
-        put = one-put 0 at.pos t (field-absent (number_at k) l at.pos a) p q;
-        within = (omega arith, omega arith);
-      }
+      record { put = one-put 0 at.pos t e h q; within = (omega arith, omega arith) }
 
-  -- .. and where it was read; or it was refused.
-  pub one-there : (v j : ℕ) (t : Spot) → there ≡ true → got v j ≡ number_at k l at.pos → s' ≡ put_word s at.word v →
-      t ≡ record { pos = j; word = at.word + 1; value = v } →
-      Step 1 (as_word (field_if there (number_at k))) l at s s' (Ok t)
-  one-there v j t h g p q =
+-- .. or one that was read; or it was refused.
+module _ (k : Number) (l s s' : List ℕ) (at : Spot) where
+  pub one-there : (v j : ℕ) (t : Spot) → got v j ≡ number_at k l at.pos → s' ≡ put_word s at.word v →
+      t ≡ record { pos = j; word = at.word + 1; value = v } → Step 1 (as_word (number_at k)) l at s s' (Ok t)
+  one-there v j t g h q =
       let b = ap (λ t. t.pos) q in
       let c = ap (λ t. t.word) q in
       let m = number_in k l at.pos v j g in
-      record {
-        put = one-put v j t (ap (λ p. p l at.pos) (field-there (number_at k) h) ∙ sym g) p q;
-        within = (omega (arith, m.1), omega (arith, m.0));
-      }
+      record { put = one-put (number_at k) l s s' at v j t g h q; within = (omega (arith, m.1), omega (arith, m.0)) }
 
-  pub one-stop : (x : Refused) → at.pos ≤ length l → there ≡ true → stop_of x ≡ number_at k l at.pos →
-      Step 1 (as_word (field_if there (number_at k))) l at s s' (Err x)
+  pub one-stop : (x : Refused) → at.pos ≤ length l → stop_of x ≡ number_at k l at.pos →
+      Step 1 (as_word (number_at k)) l at s s' (Err x)
   unfolding as_word
-  one-stop x h e g =
-      let f = ap (λ p. p l at.pos) (field-there (number_at k) e) ∙ sym g in
+  one-stop x h g =
       record {
-        put = put-stop _ at.word s s' x (map-stop (λ v. (v, v ∷ [])) (field_if there (number_at k)) l at.pos _ x.at f);
+        put = put-stop _ at.word s s' x (map-stop (λ v. (v, v ∷ [])) (number_at k) l at.pos _ x.at (sym g));
         within = omega (arith, number-stop k l at.pos _ x.at (sym g));
       }
 

@@ -284,4 +284,3 @@ module _ (l : List ℕ) (bytes : (k : ℕ) → get_or l k 0 < 256) where
   -- No second one has where as many have as there are pairs.
   pub even-pairs : (n i : ℕ) → i + 2 * n ≤ length l → tops 1 (n + n) l i ≡ n → tops 2 n l i ≡ n → Even 2 n l i
   even-pairs n i h a b = even-twos n i h b (omega (arith, tops-halves l n i))
-

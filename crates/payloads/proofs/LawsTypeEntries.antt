@@ -163,7 +163,7 @@ old_kind {n} {m} {l} {s} {s₁} {s₂} {s'} at {b} {r} few y p z =
     record {
       row = old-end l s s' at.pos at.word b.value ws b.pos r e (field_at (ℕ_discrete b.value 1) varint_at l b.pos) refl x;
       within = within-most l at.pos at.word (2 + n + m) 7 r (omega arith)
-      (within-then l (2 + n) m at.pos at.word b r (omega (arith, y.step.within.1)) z.within);
+          (within-then l (2 + n) m at.pos at.word b r (omega (arith, y.step.within.1)) z.within);
     }
 
 -- A kind by a parser that is the same.

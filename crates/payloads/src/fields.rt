@@ -12,13 +12,14 @@ ghost use Rattle.payloads.specs.Fields.{number_at, Room, Near, Step, as_word, li
 use enums::{Refusal, VersionClass};
 use reading::{Read, Reader, Refused};
 
-// How far an entry is read and its row is filled: the next byte, the next word, and the number that was copied last (of
-// a list its count).
+// How far an entry is read and its row is filled: the number that was copied last (of a list its count), the next byte,
+// and the next word. In an answer a refusal shares the memory of the first field, which is why that is the one that is
+// needed least.
 #[derive(Clone, Copy)]
 pub struct Spot {
+    pub value: u64,
     pub pos: usize,
     pub word: usize,
-    pub value: u64,
 }
 
 // How a number stands in an entry.
@@ -28,24 +29,6 @@ pub enum Number {
     Byte,
     I32,
     I64,
-}
-
-#[tactic(auto, unfolding(crate::specs::Fields::number_at))]
-pub fn read_number(entry: &[u8], reader: Reader, number: Number) -> Read<u64>
-    ensures { got_of result ≡ number_at number «entry».now reader.pos }
-{
-    match number {
-        Number::Varint => reader.read_varint(entry),
-        Number::I64 => reader.read_le_u64(entry),
-        Number::Byte => {
-            let (value, next) = reader.read_byte(entry)?;
-            Ok((u64::from(value), next))
-        }
-        Number::I32 => {
-            let (value, next) = reader.read_le_u32(entry)?;
-            Ok((u64::from(value), next))
-        }
-    }
 }
 
 // Puts a number that takes no bytes of the entry.
@@ -62,26 +45,64 @@ pub fn put_value(sheet: &mut [u8], value: u64, at: Spot) -> Spot
     }
 }
 
-// Copies one number if it is there; else a word 0 stands for it.
-pub fn copy_field(
-    entry: &[u8],
-    there: bool,
-    number: Number,
-    sheet: &mut [u8],
-    at: Spot,
-) -> Result<Spot, Refused>
+// Copies a varint.
+pub fn copy_number(entry: &[u8], sheet: &mut [u8], at: Spot) -> Result<Spot, Refused>
     requires { Room «entry».now at }
-    ensures { Step 1 (as_word (field_if there (number_at number))) «entry».now at sheet.old sheet.new result }
+    ensures { Step 1 (as_word varint_at) «entry».now at sheet.old sheet.new result }
 {
-    if !there {
-        return Ok(put_value(sheet, 0, at));
-    }
-    let (value, next) = read_number(entry, Reader { pos: at.pos }, number)?;
+    let (value, next) = (Reader { pos: at.pos }).read_varint(entry)?;
     let behind = Spot {
         pos: next.pos,
         ..at
     };
     Ok(put_value(sheet, value, behind))
+}
+
+// Copies a varint if it is there; else a word 0 stands for it.
+#[tactic(auto, unfolding(crate::specs::Fields::field_if, format::specs::DecodeTables::field_at, exact::specs::Choice::choose))]
+pub fn copy_number_if(
+    entry: &[u8],
+    there: bool,
+    sheet: &mut [u8],
+    at: Spot,
+) -> Result<Spot, Refused>
+    requires { Room «entry».now at }
+    ensures { Step 1 (as_word (field_if there varint_at)) «entry».now at sheet.old sheet.new result }
+{
+    if there {
+        return copy_number(entry, sheet, at);
+    }
+    Ok(put_value(sheet, 0, at))
+}
+
+// Copies flags that are there from 13.4 on.
+#[tactic(auto, unfolding(crate::specs::Fields::field_if, format::specs::DecodeTables::field_at, exact::specs::Choice::choose, format::specs::DecodeTypes::flags_at))]
+pub fn copy_flags(
+    entry: &[u8],
+    class: VersionClass,
+    sheet: &mut [u8],
+    at: Spot,
+) -> Result<Spot, Refused>
+    requires { Room «entry».now at }
+    ensures { Step 1 (as_word (flags_at «class»)) «entry».now at sheet.old sheet.new result }
+{
+    copy_number_if(entry, class.from_13_4(), sheet, at)
+}
+
+// Copies a byte that is there if bit 0 of the flags is set; else a word 0 stands for it.
+pub fn copy_byte_if(entry: &[u8], flags: u64, sheet: &mut [u8], at: Spot) -> Result<Spot, Refused>
+    requires { Room «entry».now at }
+    ensures { Step 1 (as_word (byte_if flags)) «entry».now at sheet.old sheet.new result }
+{
+    if flags % 2 != 1 {
+        return Ok(put_value(sheet, 0, at));
+    }
+    let (value, next) = (Reader { pos: at.pos }).read_byte(entry)?;
+    let behind = Spot {
+        pos: next.pos,
+        ..at
+    };
+    Ok(put_value(sheet, u64::from(value), behind))
 }
 
 // Copies `count` varints one by one.
@@ -161,7 +182,8 @@ fn copy_fixed(
     })
 }
 
-// Copies `count` numbers.
+// Copies `count` numbers. It is part of the function that calls it, so that its answer is not copied once more on its way.
+#[inline(always)]
 pub fn copy_numbers(
     entry: &[u8],
     number: Number,
@@ -180,53 +202,11 @@ pub fn copy_numbers(
     }
 }
 
-// Copies a varint.
-#[tactic(auto, unfolding(crate::specs::Fields::number_at, crate::specs::Fields::field_if, format::specs::DecodeTables::field_at, exact::specs::Choice::choose))]
-pub fn copy_number(entry: &[u8], sheet: &mut [u8], at: Spot) -> Result<Spot, Refused>
-    requires { Room «entry».now at }
-    ensures { Step 1 (as_word varint_at) «entry».now at sheet.old sheet.new result }
-{
-    copy_field(entry, true, Number::Varint, sheet, at)
-}
-
 // Copies a counted list: its count, and its numbers.
-pub fn copy_list(
-    entry: &[u8],
-    number: Number,
-    sheet: &mut [u8],
-    at: Spot,
-) -> Result<Spot, Refused>
+pub fn copy_list(entry: &[u8], number: Number, sheet: &mut [u8], at: Spot) -> Result<Spot, Refused>
     requires { Room «entry».now at }
     ensures { Step 1 (listed number) «entry».now at sheet.old sheet.new result }
 {
     let count = copy_number(entry, sheet, at)?;
     copy_numbers(entry, number, sheet, count.value, count)
-}
-
-// Copies flags that are there from 13.4 on.
-#[tactic(auto, unfolding(crate::specs::Fields::number_at, crate::specs::Fields::field_if, format::specs::DecodeTables::field_at, exact::specs::Choice::choose, format::specs::DecodeTypes::flags_at))]
-pub fn copy_flags(
-    entry: &[u8],
-    class: VersionClass,
-    sheet: &mut [u8],
-    at: Spot,
-) -> Result<Spot, Refused>
-    requires { Room «entry».now at }
-    ensures { Step 1 (as_word (flags_at «class»)) «entry».now at sheet.old sheet.new result }
-{
-    copy_field(entry, class.from_13_4(), Number::Varint, sheet, at)
-}
-
-// Copies a byte that is there if bit 0 of the flags is set.
-#[tactic(auto, unfolding(crate::specs::Fields::number_at, crate::specs::Fields::field_if, format::specs::DecodeTables::field_at, exact::specs::Choice::choose, format::specs::DecodeTypes::byte_if))]
-pub fn copy_byte_if(
-    entry: &[u8],
-    flags: u64,
-    sheet: &mut [u8],
-    at: Spot,
-) -> Result<Spot, Refused>
-    requires { Room «entry».now at }
-    ensures { Step 1 (as_word (byte_if flags)) «entry».now at sheet.old sheet.new result }
-{
-    copy_field(entry, flags % 2 == 1, Number::Byte, sheet, at)
 }

@@ -4,10 +4,10 @@ ghost use Rattle.std.specs.Prelude.{◌≡◌, ◌+◌, ◌*◌, ◌^◌, ◌≤
 ghost use Rattle.exact.specs.Got.{got};
 ghost use Rattle.reading.specs.Numbers.{varint_at};
 ghost use Rattle.payloads.specs.declared.fields.Number.TheVariants.{Varint};
-ghost use Rattle.payloads.specs.Fields.{Room, Near, Step, numbers};
+ghost use Rattle.payloads.specs.Fields.{Room, Near, Step, listed, numbers};
 ghost use Rattle.payloads.specs.Indices.{tops, Spans, Even, Some};
 
-use crate::fields::{Number, Spot, copy_numbers};
+use crate::fields::{Number, Spot, copy_number, copy_numbers};
 use reading::Refused;
 
 // How many bytes of a list are looked at together.
@@ -80,21 +80,21 @@ fn copy_block(entry: &[u8], sheet: &mut [u8], at: Spot) -> Result<Spot, Refused>
     copy_numbers(entry, Number::Varint, sheet, BLOCK as u64, at)
 }
 
-// Copies as many varints as the number says that was copied before them, a block at a time while so many are left.
+// Copies a counted list of varints, a block at a time while so many are left.
 pub fn copy_indices(entry: &[u8], sheet: &mut [u8], at: Spot) -> Result<Spot, Refused>
     requires { Room «entry».now at }
-    ensures { Step 1 (numbers at.value at.value Varint) «entry».now at sheet.old sheet.new result }
+    ensures { Step 1 (listed Varint) «entry».now at sheet.old sheet.new result }
 {
-    let mut next = at;
-    let mut left = at.value;
+    let count = copy_number(entry, sheet, at)?;
+    let mut next = count;
+    let mut left = count.value;
     while BLOCK as u64 <= left {
         next = copy_block(entry, sheet, next)?;
         left -= next.value;
     }
     let last = copy_numbers(entry, Number::Varint, sheet, left, next)?;
     Ok(Spot {
-        pos: last.pos,
-        word: last.word,
-        value: at.value,
+        value: count.value,
+        ..last
     })
 }

@@ -13,7 +13,7 @@ ghost use Rattle.payloads.specs.Fill.{Fits, Fills};
 
 use crate::answers::{Filled, TableRead};
 use crate::fields::{
-    Number, Spot, copy_byte_if, copy_field, copy_flags, copy_list, copy_number, put_value,
+    Number, Spot, copy_byte_if, copy_flags, copy_list, copy_number, copy_number_if, put_value,
 };
 use crate::indices::copy_indices;
 use entries::starts::{Starts, Width, first_entry, next_entry, parse_starts};
@@ -21,12 +21,7 @@ use enums::{Refusal, TypeTag, VersionClass};
 use reading::{Read, Reader, Refused};
 
 // One reader for each kind: the tag, and the fields behind it.
-fn pointer(
-    entry: &[u8],
-    class: VersionClass,
-    sheet: &mut [u8],
-    at: Spot,
-) -> Result<Spot, Refused>
+fn pointer(entry: &[u8], class: VersionClass, sheet: &mut [u8], at: Spot) -> Result<Spot, Refused>
     requires { Spare «entry».now at }
     ensures { Kind (pointer_at «class») «entry».now at sheet.old sheet.new result }
 {
@@ -103,7 +98,7 @@ fn old_partition_view(entry: &[u8], sheet: &mut [u8], at: Spot) -> Result<Spot, 
         pos: next.pos,
         ..dims
     };
-    copy_field(entry, presence == 1, Number::Varint, sheet, behind)
+    copy_number_if(entry, presence == 1, sheet, behind)
 }
 
 fn gather_scatter_view(entry: &[u8], sheet: &mut [u8], at: Spot) -> Result<Spot, Refused>
@@ -136,10 +131,8 @@ fn function(entry: &[u8], sheet: &mut [u8], at: Spot) -> Result<Spot, Refused>
     ensures { Kind function_type_at «entry».now at sheet.old sheet.new result }
 {
     let tag = put_value(sheet, TypeTag::FUNC as u64, at);
-    let input_count = copy_number(entry, sheet, tag)?;
-    let inputs = copy_indices(entry, sheet, input_count)?;
-    let result_count = copy_number(entry, sheet, inputs)?;
-    copy_indices(entry, sheet, result_count)
+    let inputs = copy_indices(entry, sheet, tag)?;
+    copy_indices(entry, sheet, inputs)
 }
 
 // A partition view, by the version class.

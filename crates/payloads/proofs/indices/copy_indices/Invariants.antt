@@ -12,9 +12,9 @@ use Rattle.payloads.proofs.indices.copy_indices.Given as goal
 
 abbrev pub invariant-loop-left : goal.invariant-loop-left
 invariant-loop-left l =
-    ((s : List ℕ) (r : Result Spot Refused) → Step 0 (numbers l.at.value l.left Varint) l.entry l.next l.sheet s r →
-    Step 0 (numbers l.at.value l.at.value Varint) l.entry l.at l.initial.sheet s r) ×
-    (l.next.pos ≤ length l.entry) × (l.next.word + l.at.pos ≤ l.at.word + l.next.pos)
+    ((s : List ℕ) (r : Result Spot Refused) → Step 0 (numbers l.count.value l.left Varint) l.entry l.next l.sheet s r →
+    Step 0 (numbers l.count.value l.count.value Varint) l.entry l.count l.initial.sheet s r) ×
+    (l.next.pos ≤ length l.entry) × (l.next.word + l.count.pos ≤ l.count.word + l.next.pos)
 
 abbrev pub decreases-loop-left : goal.decreases-loop-left
 decreases-loop-left l = l.left

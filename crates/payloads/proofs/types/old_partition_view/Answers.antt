@@ -31,8 +31,8 @@ returns-in_err-presence c =
     (old-stop c.args.at
     (ran_more c.in_ok-shape.ensures (ran_more c.in_ok-view.ensures (ran_more d (ran-last (presence-stop _ _ _ c.in_ok-dims.dims _ d.within.0 c.in_err-presence.ensures))))))
 
-pub copy_field-requires : goal.copy_field-requires
-copy_field-requires c =
+pub copy_number_if-requires : goal.copy_number_if-requires
+copy_number_if-requires c =
     let y = presence-got _ c.args.sheet.now c.in_ok-dims.dims _ _ c.in_ok-presence.ensures in
     omega (arith, y.within, c.requires, c.in_ok-shape.ensures.within, c.in_ok-view.ensures.within, c.in_ok-dims.ensures.within)
 
@@ -41,6 +41,6 @@ unfolding number_at
 returns c =
     let y = presence-got _ _ c.in_ok-dims.dims _ _ c.in_ok-presence.ensures in
     let p = rw c.put_word.ensures at c.put_word-2.ensures in
-    let z = rw (field-if c.in_ok-presence.presence 1 varint_at) at c.copy_field.ensures in
+    let z = rw (field-if c.in_ok-presence.presence 1 varint_at) at c.copy_number_if.ensures in
     old_kind c.args.at (omega arith) (ran_more c.in_ok-shape.ensures (ran_more c.in_ok-view.ensures (ran_more c.in_ok-dims.ensures (ran-last y)))) p
     (record { put = z.put; within = z.within })
