@@ -11,14 +11,13 @@ use Rattle.exact.specs.Got.{Got, got, stop}
 use Rattle.exact.specs.Tiling.{join}
 use Rattle.exact.specs.Entries.{raised}
 use Rattle.exact.proofs.LawsExact.{stop-not-got, got-value}
-use Rattle.enums.specs.Refusals as refusals
 use Rattle.enums.specs.declared.Stage.TheVariants as stage
 use Rattle.format.specs.Debug.{DebugTables, no_debug}
 use Rattle.format.specs.Read.{at_stage}
 use Rattle.format.specs.Decode.{most_bytes}
 use Rattle.format.specs.DecodeDebug.{debug_at}
 use Rattle.format.specs.Sound.{All, Fits}
-use Rattle.container.specs.Shown.{refused_of, stopped_at}
+use Rattle.container.specs.Shown.{stopped_at}
 use Rattle.container.specs.declared.sections.SectionPlace.{SectionPlace}
 use Rattle.reading.specs.Shown.{stop_of}
 use Rattle.reading.specs.declared.Refused.{Refused}

@@ -55,7 +55,7 @@ use Rattle.payloads.specs.Pass.{
 }
 use Rattle.payloads.specs.declared.pass.Table.{Table}
 use Rattle.payloads.specs.declared.pass.Table.TheVariants.{Strings, Types, Constants, Globals, Functions}
-use Rattle.payloads.proofs.LawsSizes.{payload-short, in-place-small}
+use Rattle.payloads.proofs.LawsSizes.{in-place-small}
 use Rattle.payloads.proofs.LawsFilled.{words_more, runs-more, filled_more}
 
 -- A table without runs leaves any pool as it is.

@@ -9,8 +9,7 @@ use Rattle.exact.specs.Got.{Got, got, stop, follow}
 use Rattle.exact.specs.Tiling.{join}
 use Rattle.exact.specs.Entries as table
 use Rattle.enums.specs.Container.{string_id, func_id, debug_id, constant_id, type_id, global_id, producer_id}
-use Rattle.enums.specs.Numbered.{id_of, stage_number}
-use Rattle.enums.specs.declared.Section.{Section}
+use Rattle.enums.specs.Numbered.{stage_number}
 use Rattle.enums.specs.declared.Section.TheVariants as section
 use Rattle.enums.specs.Refusals as refusals
 use Rattle.enums.specs.declared.VersionClass.{VersionClass}
@@ -28,7 +27,6 @@ use Rattle.format.specs.DecodeDebug.{debug_at}
 use Rattle.format.specs.Decode.{gathered, payloads}
 use Rattle.format.specs.Sheet.{type_words, global_words, producer_word}
 use Rattle.format.proofs.Decoded.{accepted-value, stage-inv}
-use Rattle.container.specs.declared.sections.SectionPlace.{SectionPlace}
 use Rattle.container.specs.declared.sections.Container.{Container}
 use Rattle.container.specs.Container.{held_container, Opened, opened}
 use Rattle.payloads.specs.Fill.{Rows}

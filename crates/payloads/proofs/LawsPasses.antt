@@ -8,7 +8,7 @@ use Rattle.std.specs.Prelude.{Ok, Err}
 use Rattle.exact.specs.Tiling.{join}
 use Rattle.enums.specs.declared.Section.TheVariants as section
 use Rattle.format.specs.Debug.{no_debug}
-use Rattle.format.specs.Read.{Read, accepted, refused, map_read}
+use Rattle.format.specs.Read.{Read, accepted, map_read}
 use Rattle.format.specs.Views.{and_then}
 use Rattle.format.specs.Decode.{most_bytes}
 use Rattle.format.specs.DecodeDebug.{debug_at}
@@ -19,7 +19,7 @@ use Rattle.container.specs.declared.sections.Stopped.{Stopped}
 use Rattle.sheet.specs.Store.{put_words, put_runs}
 use Rattle.payloads.specs.Fill.{Fits}
 use Rattle.payloads.specs.declared.answers.Filled.{Filled}
-use Rattle.payloads.specs.Pass.{in_place, all_words, all_runs, contents_of, filled_sheet, Begun, Pass, filled_of, pass_of, Small, Progress, Goes, with_producer, with_debug, begun, place_at, table_step, named, passed, head_words, need_in, value_of, Passes}
+use Rattle.payloads.specs.Pass.{in_place, all_words, all_runs, contents_of, filled_sheet, Begun, Pass, Small, Progress, Goes, with_producer, with_debug, begun, place_at, table_step, named, passed, head_words, need_in, value_of, Passes}
 use Rattle.payloads.specs.declared.pass.Table.TheVariants.{Strings, Types, Constants, Globals, Functions}
 use Rattle.payloads.proofs.LawsPass.{stopped-as, got-as, goes-stop}
 

@@ -6,7 +6,7 @@ use mathlib.Core.Option.{Option, none, some}
 use mathlib.Core.List.{List}
 use lib.ListN.{length}
 use Rattle.std.specs.Prelude.{Result, Ok, Err}
-use Rattle.exact.specs.Got.{got, stop}
+use Rattle.exact.specs.Got.{got}
 use Rattle.exact.specs.Entries.{raised}
 use Rattle.enums.specs.Refusals as refusals
 use Rattle.enums.specs.declared.Stage.TheVariants as stage

@@ -8,13 +8,12 @@ use lib.ListN.{length}
 use Rattle.exact.specs.Tiling.{join}
 use Rattle.encoding.specs.Out.{put}
 use Rattle.encoding.proofs.LawsOut.{none_before}
-use Rattle.enums.specs.Refusals as refusals
 use Rattle.std.specs.Prelude.{Result, Ok, Err}
 use Rattle.enums.specs.declared.Refusal.TheVariants.{Full}
 use Rattle.container.specs.Shown.{refused_of, stopped_call}
 use Rattle.container.proofs.LawsShown.{read-only}
 use Rattle.format.specs.Tables.{Tables}
-use Rattle.format.specs.Read.{Read, accepted, refused, map_read}
+use Rattle.format.specs.Read.{Read, accepted, map_read}
 use Rattle.format.specs.Views.{and_then}
 use Rattle.format.specs.Decode.{decode}
 use Rattle.format.specs.Sheet.{sheet_of, pool_of}

@@ -15,7 +15,6 @@ use Rattle.exact.specs.Tiling.{join}
 use Rattle.enums.specs.declared.VersionClass.{VersionClass}
 use Rattle.encoding.specs.Out.{put}
 use Rattle.sheet.specs.Store.{put_word, put_words, put_runs}
-use Rattle.sheet.proofs.LawsStore.{put_words-append}
 use Rattle.reading.specs.Numbers.{varint_at}
 use Rattle.format.specs.Tables.{Global, Function}
 use Rattle.format.specs.Functions.{Located, apart}
@@ -23,7 +22,6 @@ use Rattle.format.specs.DecodeRows.{global_at, globals_at, function_at, function
 use Rattle.format.specs.Sheet.{global_words, function_row_of, function_words}
 use Rattle.entries.specs.declared.rows.FuncRow.{FuncRow}
 use Rattle.entries.specs.Rows.{bytes_in, located_in}
-use Rattle.entries.proofs.LawsRows.{function-in}
 use Rattle.payloads.specs.Fill.{Rows, Fills}
 use Rattle.payloads.specs.declared.answers.Filled.{Filled}
 use Rattle.std.specs.Prelude.{Result}

@@ -6,7 +6,7 @@ use native.Mathlib.Nat.{add-zero, zero-add}
 use native.Mathlib.Omega.{arith}
 use native.Mathlib.Decide.{dec_lt}
 use mathlib.Core.List.{List, [], ◌∷◌, ◌++◌, append-nil, append_assoc}
-use lib.ListN.{length, get_or, take, drop, set, replicate, length-set, drop_of_length-le}
+use lib.ListN.{length, get_or, take, drop, set, replicate, length-set}
 use lib.Seq.{drop-cons, get_or-take, get_or-drop, take-add, take_all, take-set-le, get_or-set_same}
 use Rattle.exact.specs.Got.{Got, got, follow}
 use Rattle.exact.specs.Basic.{byte, pure}
@@ -18,7 +18,7 @@ use Rattle.enums.proofs.LawsDebug.{counts-few}
 use Rattle.reading.specs.Numbers.{varint_at}
 use Rattle.format.specs.Debug.{attribute_of}
 use Rattle.format.specs.Sheet.{attribute_words}
-use Rattle.sheet.specs.Store.{put_word, put_words}
+use Rattle.sheet.specs.Store.{put_words}
 use Rattle.entries.proofs.LawsEntries.{part_length}
 use Rattle.payloads.specs.Indices.{Spans}
 use Rattle.payloads.specs.Shorts.{high_at, shorts}

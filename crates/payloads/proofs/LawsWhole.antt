@@ -5,15 +5,13 @@ use Rattle.std.specs.Prelude.{Result}
 use mathlib.Core.List.{List}
 use lib.ListN.{length}
 use Rattle.exact.specs.Tiling.{join}
-use Rattle.enums.specs.declared.BytecodeVersion.{BytecodeVersion}
 use Rattle.format.specs.Tables.{Tables}
-use Rattle.format.specs.Explains.{Placed, class}
+use Rattle.format.specs.Explains.{Placed}
 use Rattle.format.specs.Read.{Read, accepted, refused, map_read}
 use Rattle.format.specs.Views.{and_then}
 use Rattle.format.specs.Decode.{payloads, only_tables, decode}
 use Rattle.format.specs.Sheet.{sheet_of}
-use Rattle.format.proofs.Decoded.{refused-not-accepted, map-inv}
-use Rattle.container.specs.declared.sections.SectionPlace.{SectionPlace}
+use Rattle.format.proofs.Decoded.{map-inv}
 use Rattle.container.specs.Container.{held_container, Opened, opened}
 use Rattle.container.specs.declared.sections.Container.{Container}
 use Rattle.container.specs.declared.sections.Stopped.{Stopped}
@@ -21,8 +19,8 @@ use Rattle.container.specs.Shown.{refused_of}
 use Rattle.container.proofs.LawsOpened.{placed-opened, held-stop, held-passed}
 use Rattle.sheet.specs.Store.{put_words, put_runs}
 use Rattle.payloads.specs.declared.Need.{Need}
-use Rattle.payloads.specs.Pass.{value_of, all_words, all_runs, filled_sheet, named, passed, head_words, need_in, Passes}
-use Rattle.payloads.specs.Whole.{file_read, need_of, runs_of, PassPost}
+use Rattle.payloads.specs.Pass.{all_words, all_runs, filled_sheet, passed, head_words, need_in, Passes}
+use Rattle.payloads.specs.Whole.{need_of, runs_of, PassPost}
 use Rattle.payloads.proofs.LawsPassed.{seven_of, all_of, passed-payloads, named-producer, kept-version}
 use Rattle.payloads.proofs.LawsSheet.{seven_runs, seven-length, seven-bytes, seven-sheet}
 

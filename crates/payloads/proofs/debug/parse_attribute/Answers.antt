@@ -3,7 +3,7 @@ use mathlib.Core.Path.{sym, ap}
 use native.Mathlib.Omega.{arith}
 use Rattle.std.proofs.lemmas.Result.{err_from_is_err_and}
 use Rattle.reading.proofs.LawsInside.{byte-in}
-use Rattle.payloads.proofs.LawsDebug.{count-few, one-short, one-unknown, fields_at, attribute-refused, attribute-word, attribute-row}
+use Rattle.payloads.proofs.LawsDebug.{one-short, one-unknown, fields_at, attribute-refused, attribute-row}
 use Rattle.payloads.proofs.LawsEntryRows.{row-stop}
 use Rattle.payloads.proofs.debug.parse_attribute.Goals as goal
 

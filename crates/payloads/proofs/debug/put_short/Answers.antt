@@ -1,6 +1,6 @@
 -- `put_short` puts an attribute that is read, since each of its numbers is one byte or two and the last ends in time;
 -- or it puts nothing. Assumes nothing.
-use mathlib.Core.Path.{sym, ap, ◌∙◌}
+use mathlib.Core.Path.{ap, ◌∙◌}
 use mathlib.Core.Bool.{true≢false}
 use Prim.Native.Nat.{◌+◌}
 use Rattle.payloads.specs.Shorts.{shorts}

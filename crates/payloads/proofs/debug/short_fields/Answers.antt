@@ -1,10 +1,8 @@
 -- `short_fields` turns six times: what it has found and what is left make up the whole (`Going`). Assumes nothing.
 use mathlib.Core.Path.{refl}
-use Prim.Native.Nat.{ℕ, ◌+◌, ◌<◌}
-use mathlib.Core.List.{List}
+use Prim.Native.Nat.{◌+◌, ◌<◌}
 use native.Mathlib.Omega.{arith}
 use lib.ListN.{get_or}
-use Rattle.payloads.specs.Shorts.{high_at}
 use Rattle.payloads.proofs.LawsShorts.{high_small, going-begun, going-over, going_more, going-past}
 use Rattle.payloads.proofs.debug.short_fields.Goals as goal
 use Rattle.payloads.proofs.debug.short_fields.Goals.{then-k-count, else-k-count}

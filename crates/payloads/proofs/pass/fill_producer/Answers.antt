@@ -1,5 +1,5 @@
 -- `fill_producer` is the producer's step of a pass. Assumes nothing.
-use mathlib.Core.Path.{sym, ap, ◌∙◌}
+use mathlib.Core.Path.{sym, ◌∙◌}
 use native.Mathlib.Omega.{arith}
 use Rattle.std.proofs.lemmas.Result.{err_from_is_err_and}
 use Rattle.payloads.proofs.LawsRaised.{raised-fits, raised-err, raised-ok, staged-err, staged-ok}

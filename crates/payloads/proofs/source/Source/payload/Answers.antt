@@ -1,8 +1,6 @@
 -- `payload` takes the bytes at a place that lies in the file. Assumes nothing.
-use mathlib.Core.Path.{sym, ap, ◌∙◌, subst}
+use mathlib.Core.Path.{sym, subst}
 use native.Mathlib.Omega.{arith}
-use lib.ListN.{get_or}
-use Rattle.container.specs.Container.{nowhere}
 use Rattle.payloads.specs.Pass.{Inside}
 use Rattle.payloads.proofs.LawsHeld.{source-short, source-inside, part-near}
 use Rattle.payloads.proofs.source.Source.payload.Goals as goal
