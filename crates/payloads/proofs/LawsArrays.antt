@@ -1,5 +1,7 @@
 -- Numbers of one width that stand one behind the other: as they are put, word by word, and as a parser reads them.
 -- Assumes nothing.
+use Rattle.std.specs.Prelude.{Result, Ok, Err}
+use Rattle.reading.specs.declared.Refused.{Refused}
 use mathlib.Core.Path.{◌≡◌, refl, sym, ap, ◌∙◌, subst}
 use Prim.Native.Nat.{ℕ, zero, suc, ◌+◌, ◌-◌, ◌*◌, ◌/◌, ◌^◌, ◌≤◌, ◌<◌}
 use native.Mathlib.Nat.{sub-zero, zero-mul, pow-zero, pow-succ', pow-le-pow_right, mul-le-mul_left, mul-le-mul_right, lt-div-mul-add}
@@ -19,11 +21,10 @@ use Rattle.exact.proofs.LawsSteps.{nums_at, times-at, times-end}
 use Rattle.sheet.specs.Store.{put_word, put_words}
 use Rattle.payloads.specs.declared.fields.Number.{Number}
 use Rattle.payloads.specs.declared.fields.Spot.{Spot}
-use Rattle.payloads.specs.declared.fields.SpotRead.{SpotRead}
-use Rattle.payloads.specs.declared.fields.SpotRead.TheVariants as spot
 use Rattle.entries.proofs.LawsStarts.{starts-room, starts_fit}
-use Rattle.payloads.specs.Fields.{number_at, numbers, several, Put, Within}
-use Rattle.payloads.proofs.LawsFields.{map-got, map-stop}
+use Rattle.enums.specs.declared.Refusal.TheVariants.{Short}
+use Rattle.payloads.specs.Fields.{number_at, numbers, several, Put, Step}
+use Rattle.payloads.proofs.LawsFields.{map-got, map-stop, put-stop, step-same}
 
 -- All bytes from a place on.
 pub rest_all : (l : List ℕ) (i : ℕ) → take (length l - i) (drop i l) ≡ drop i l
@@ -107,60 +108,42 @@ module _ (e k : ℕ) (l : List ℕ) (i w : ℕ) where
   nums-done s h = let n : length (nums e k l) ≤ i = omega (arith, length-nums e k l) in rw (drop_of_length-le (nums e k l) n)
 
   -- .. or one more.
-  pub nums-more : (s t : List ℕ) (v : ℕ) → i < e → v ≡ little (take k (drop (i * k) l)) → t ≡ put_word s w v →
-      put_words s w (drop i (nums e k l)) ≡ put_words t (w + 1) (drop (i + 1) (nums e k l))
+  pub nums-more : (s t : List ℕ) (v u : ℕ) → u ≡ w + 1 → i < e → v ≡ little (take k (drop (i * k) l)) → t ≡ put_word s w v →
+      put_words s w (drop i (nums e k l)) ≡ put_words t u (drop (i + 1) (nums e k l))
   unfolding put_words
-  nums-more s t v h f g =
+  nums-more s t v u q h f g =
       let n : i < length (nums e k l) = omega (arith, length-nums e k l) in
       let a : get_or (nums e k l) i 0 ≡ v = nums_at e k l i h ∙ sym f in
-      rw (drop-cons (nums e k l) i 0 n, a, add-one i, g)
+      rw (drop-cons (nums e k l) i 0 n, a, add-one i, g, q)
 
 -- All n numbers of k bytes are there ..
-module _ (n k : ℕ) (l : List ℕ) (i w : ℕ) where
-  pub several-fit : n ≤ (length l - i) / k → n * k ≤ length l - i
-  several-fit h = starts_fit k l i n (length l - i) refl h
-
-  pub several-got : (s s' : List ℕ) → n ≤ (length l - i) / k → s' ≡ put_words s w (nums n k (drop i l)) →
-      Put (several n n (fixed k) l i) w s s' (spot.Got record { pos = i + n * k; word = w + n; value = n })
+module _ (n k : ℕ) (l s s' : List ℕ) (t : Spot) (some : 0 < k) (low : t.pos ≤ length l) where
+  pub several-got : n ≤ (length l - t.pos) / k → s' ≡ put_words s t.word (nums n k (drop t.pos l)) →
+      Step 0 (several n n (fixed k)) l t s s' (Ok record { pos = t.pos + n * k; word = t.word + n; value = n })
   unfolding several Put
-  several-got s s' h e =
-      let m : several n n (fixed k) l i ≡ got (n, nums n k (drop i l)) (i + n * k) =
-      map-got (λ vs. (n, vs)) (times n (fixed k)) l i (nums n k (drop i l)) (i + n * k) (times-at n k l i (several-fit h)) in
-      let q : w + length (nums n k (drop i l)) ≡ w + n = omega (arith, length-nums n k (drop i l)) in
-      subst (λ g. Put g w s s' (spot.Got record { pos = i + n * k; word = w + n; value = n })) (sym m) (rw q refl, e)
-
-  pub several-within : 0 < k → i ≤ length l → n ≤ (length l - i) / k →
-      Within l i w 0 (spot.Got record { pos = i + n * k; word = w + n; value = n })
-  unfolding Within
-  several-within some low h =
-      let m : n * 1 ≤ n * k = mul-le-mul_left n some in
-      let f = several-fit h in
-      (omega (arith, f), omega (arith, m))
+  several-got h e =
+      let f : n * k ≤ length l - t.pos = starts_fit k l t.pos n (length l - t.pos) refl h in
+      let w : n * 1 ≤ n * k = mul-le-mul_left n some in
+      let m : several n n (fixed k) l t.pos ≡ got (n, nums n k (drop t.pos l)) (t.pos + n * k) =
+      map-got (λ vs. (n, vs)) (times n (fixed k)) l t.pos (nums n k (drop t.pos l)) (t.pos + n * k) (times-at n k l t.pos f) in
+      let q : t.word + length (nums n k (drop t.pos l)) ≡ t.word + n = omega (arith, length-nums n k (drop t.pos l)) in
+      record {
+        put = subst (λ g. Put g t.word s s' (Ok record { pos = t.pos + n * k; word = t.word + n; value = n })) (sym m) (rw q refl, e);
+        within = (omega (arith, f), omega (arith, w));
+      }
 
   -- .. or only so many that the next one breaks where it begins.
-  pub several-room : (length l - i) / k * k ≤ length l - i
-  several-room = starts-room k l i n (length l - i) refl
-
-  pub several-short : (s s' : List ℕ) → 0 < k → (length l - i) / k < n →
-      Put (several n n (fixed k) l i) w s s' (spot.Stop record { no = ended; at = i + (length l - i) / k * k })
-  unfolding several Put
-  several-short s s' some h =
-      let q : ℕ = (length l - i) / k in
-      let b : length l - i < suc q * k = omega (arith, lt-div-mul-add {a = length l - i} some) in
-      let m : several n n (fixed k) l i ≡ stop ended (i + q * k) =
-      map-stop (λ vs. (n, vs)) (times n (fixed k)) l i ended (i + q * k) (times-end n k l i q h several-room b) in
-      subst (λ g. Put g w s s' (spot.Stop record { no = ended; at = i + q * k })) (sym m) refl
-
--- A refusal names a place of the entry or its end.
-pub several-cut : (n k : ℕ) (l : List ℕ) (i w : ℕ) → i ≤ length l →
-    Within l i w 0 (spot.Stop record { no = ended; at = i + (length l - i) / k * k })
-unfolding Within
-several-cut n k l i w low = omega (arith, several-room n k l i w)
-
--- As many words as bytes at most: they stay below those of the entry.
-pub within-less : (l : List ℕ) (i w : ℕ) (t : Spot) → Within l i w 0 (spot.Got t) → t.word ≤ w + length l
-unfolding Within
-within-less l i w t h = omega (arith, h.0, h.1)
+  pub several-short : (length l - t.pos) / k < n →
+      Step 0 (several n n (fixed k)) l t s s' (Err record { refusal = Short; at = t.pos + (length l - t.pos) / k * k })
+  unfolding several
+  several-short h =
+      let q : ℕ = (length l - t.pos) / k in
+      let b : length l - t.pos < suc q * k = omega (arith, lt-div-mul-add {a = length l - t.pos} some) in
+      let r : q * k ≤ length l - t.pos = starts-room k l t.pos n (length l - t.pos) refl in
+      record {
+        put = put-stop _ t.word s s' _ (map-stop (λ vs. (n, vs)) (times n (fixed k)) l t.pos ended (t.pos + q * k) (times-end n k l t.pos q h r b));
+        within = omega (arith, r);
+      }
 
 -- Parsers that answer the same do so n times.
 module _ (p q : Parser ℕ) (l : List ℕ) (same : (j : ℕ) → p l j ≡ q l j) where
@@ -174,15 +157,11 @@ module _ (p q : Parser ℕ) (l : List ℕ) (same : (j : ℕ) → p l j ≡ q l j
   times-same zero i = refl
   times-same (suc n) i = times-next n i (q l i) refl (times-same n)
 
--- How numbers stand is known ..
-pub numbers-told : (k m : Number) (n : ℕ) (l : List ℕ) (i a : ℕ) (s s' : List ℕ) (r : SpotRead) → k ≡ m →
-    Put (numbers n n m l i) a s s' r → Put (numbers n n k l i) a s s' r
-numbers-told k m n l i a s s' r e x = subst (λ k. Put (numbers n n k l i) a s s' r) (sym e) x
-
--- .. and those of a width stand so.
-pub numbers_as : (k m : Number) (w : ℕ) (n : ℕ) (l : List ℕ) (i a : ℕ) (s s' : List ℕ) (r : SpotRead) → k ≡ m →
-    ((j : ℕ) → number_at m l j ≡ fixed w l j) → Put (several n n (fixed w) l i) a s s' r → Put (numbers n n k l i) a s s' r
+-- Numbers of a width stand so.
+pub numbers_as : {k : Number} (m : Number) (w n : ℕ) {l s s' : List ℕ} {t : Spot} {r : Result Spot Refused} → k ≡ m →
+    ((j : ℕ) → number_at m l j ≡ fixed w l j) → Step 0 (several n n (fixed w)) l t s s' r → Step 0 (numbers n n k) l t s s' r
 unfolding numbers several mapped bind
-numbers_as k m w n l i a s s' r e f x =
-    numbers-told k m n l i a s s' r e
-    (subst (λ g. Put (follow g (λ vs j. pure (n, vs) l j)) a s s' r) (sym (times-same (number_at m) (fixed w) l f n i)) x)
+numbers_as {k} m w n {l} {s} {s'} {t} {r} e f x =
+    let y : times n (fixed w) l t.pos ≡ times n (number_at m) l t.pos = sym (times-same (number_at m) (fixed w) l f n t.pos) in
+    subst (λ k. Step 0 (numbers n n k) l t s s' r) (sym e)
+    (step-same (several n n (fixed w)) (numbers n n m) {t = t} (ap (λ g. follow g (λ vs j. pure (n, vs) l j)) y) x)

@@ -1,14 +1,15 @@
 -- How the code follows the model of Debug: its arrays, one attribute, the attributes and the lists one by one, and the
 -- whole section. Assumes nothing.
-use mathlib.Core.Path.{◌≡◌, refl, sym, ap, ◌∙◌, subst}
+use mathlib.Core.Path.{◌≡◌, refl, sym, ap, ap₂, ◌∙◌, subst}
 use Prim.Native.Nat.{ℕ, zero, suc, ◌+◌, ◌*◌, ◌-◌, ◌≤◌, ◌<◌}
-use native.Mathlib.Nat.{add-zero}
+use native.Mathlib.Nat.{add-zero, sub-zero}
 use native.Mathlib.Omega.{arith}
 use native.Mathlib.Decide.{dec_le, dec_lt}
 use mathlib.Core.Option.{Option, none, some}
 use mathlib.Core.List.{List, [], ◌∷◌, ◌++◌, map}
-use lib.ListN.{length, get_or, take, drop, replicate, length-replicate, length-append}
-use lib.Seq.{length-slice}
+use lib.ListN.{length, get_or, take, drop, replicate, length-replicate, length-append, length-take, get_or-eq_default}
+use lib.Seq.{take_all, length-slice, get_or-take, get_or-drop}
+use Rattle.std.specs.Prelude.{Result, Ok, Err}
 use Rattle.exact.specs.Got.{Got, got, stop, follow}
 use Rattle.exact.specs.Basic.{byte, pure}
 use Rattle.exact.specs.Sequence.{bind}
@@ -33,6 +34,7 @@ use Rattle.enums.proofs.LawsDebug.{counts-few}
 use Rattle.reading.specs.Numbers.{varint_at, padding_at}
 use Rattle.reading.proofs.LawsNumbers.{varint-in}
 use Rattle.reading.proofs.LawsInside.{byte-in, varint-place}
+use Rattle.reading.specs.Shown.{stop_of}
 use Rattle.reading.specs.declared.Refused.{Refused}
 use Rattle.format.specs.Tables.{Attribute}
 use Rattle.format.specs.Debug.{attribute_of, DebugTables}
@@ -44,7 +46,6 @@ use Rattle.sheet.specs.Store.{put_word, put_words}
 use Rattle.sheet.proofs.LawsStore.{put_words-append}
 use Rattle.entries.specs.Starts.{array_at, numbers_in, got_starts, Lies, number_or, end_at}
 use Rattle.entries.specs.declared.starts.Starts.{Starts}
-use Rattle.entries.specs.declared.starts.StartsRead.TheVariants as starts
 use Rattle.entries.proofs.LawsStarts.{end-got, end-stop}
 use Rattle.entries.proofs.LawsEntries.{
   array-padded,
@@ -62,30 +63,26 @@ use Rattle.entries.proofs.LawsEntries.{
 }
 use Rattle.payloads.specs.declared.answers.Filled.{Filled}
 use Rattle.payloads.specs.declared.fields.Spot.{Spot}
-use Rattle.payloads.specs.declared.fields.SpotRead.{SpotRead}
-use Rattle.payloads.specs.declared.fields.SpotRead.TheVariants as spot
 use Rattle.payloads.specs.declared.fields.Number.TheVariants.{Varint}
-use Rattle.payloads.specs.declared.debug.DebugRead.{DebugRead}
-use Rattle.payloads.specs.declared.debug.DebugRead.TheVariants as debug
+use Rattle.payloads.specs.declared.debug.DebugFilled.{DebugFilled}
 use Rattle.payloads.specs.Fields.{number_at, several, numbers, Put}
 use Rattle.payloads.specs.TypeRows.{Row, words_of, entries_by}
-use Rattle.payloads.specs.DebugRows.{list_rows, debug_words, debug_from, counted, debug_behind, DebugFills}
-use Rattle.payloads.proofs.LawsFields.{map-got, map-stop, times-length}
+use Rattle.payloads.specs.DebugRows.{attribute_row, list_rows, debug_words, counted, debug_behind, DebugFills}
+use Rattle.payloads.proofs.LawsFields.{map-got, map-stop, put-got, put-err, times-length}
 use Rattle.payloads.proofs.LawsEntryRows.{row-stop, row-got, row-refused, row_put, row_more, row-stopped}
 
 pub count-few : (l : List ℕ) (t j n : ℕ) → byte l 0 ≡ got t j → n ≡ get_or field_counts t 0 → n ≤ 6
 count-few l t j n e f = omega (arith, f, counts-few t)
 
--- Zeros, one by one.
-pub zeros-done : (s : List ℕ) (i n : ℕ) → n ≤ 0 → put_words s i (replicate n 0) ≡ s
-unfolding put_words
-zeros-done s i zero h = refl
-zeros-done s i (suc n) h = let z : ⊥ = omega arith in absurd z
+-- The fields that an attribute does not have, among zeros for all.
+zeros-behind : (m n : ℕ) → n ≤ m → drop n (replicate {A = ℕ} m 0) ≡ replicate (m - n) 0
+zeros-behind m zero h = rw sub-zero refl
+zeros-behind zero (suc n) h = let z : ⊥ = omega arith in absurd z
+zeros-behind (suc m) (suc n) h = let e : suc m - suc n ≡ m - n = omega arith in rw e (zeros-behind m n (omega arith))
 
-pub zeros-more : (s t : List ℕ) (i n : ℕ) → 0 < n → t ≡ put_word s i 0 → put_words s i (replicate n 0) ≡ put_words t (i + 1) (replicate (n - 1) 0)
-unfolding put_words
-zeros-more s t i zero h e = let z : ⊥ = omega arith in absurd z
-zeros-more s t i (suc n) h e = let q : suc n - 1 ≡ n = omega arith in rw (q, e)
+zeros-left : (n : ℕ) → n ≤ 6 → take (6 - n) (drop n (replicate {A = ℕ} 6 0)) ≡ replicate (6 - n) 0
+zeros-left n h =
+    rw (zeros-behind 6 n h) (take_all (6 - n) (replicate {A = ℕ} (6 - n) 0) (omega (arith, length-replicate {A = ℕ} (6 - n) 0)))
 
 -- The words of an attribute with these fields.
 pub words-of : (t : ℕ) (vs : List ℕ) → length vs ≤ 6 → attribute_words (attribute_of t vs) ≡ t ∷ (vs ++ replicate (6 - length vs) 0)
@@ -99,17 +96,13 @@ words-of t (a ∷ b ∷ c ∷ d ∷ e ∷ []) h = refl
 words-of t (a ∷ b ∷ c ∷ d ∷ e ∷ f ∷ []) h = refl
 words-of t (a ∷ b ∷ c ∷ d ∷ e ∷ f ∷ g ∷ vs) h = let z : ⊥ = omega arith in absurd z
 
--- What one attribute in the bytes l reads.
-abbrev pub one_at : List ℕ → Got (List ℕ)
-one_at l = sequence.mapped attribute_words attribute_at l 0
-
 module _ (l : List ℕ) where
-  pub one-short : (c k : ℕ) → byte l 0 ≡ stop c k → one_at l ≡ stop c k
+  pub one-short : (c k : ℕ) → byte l 0 ≡ stop c k → attribute_row l ≡ stop c k
   unfolding sequence.mapped bind attribute_at upto here follow
   one-short c k e = rw e
 
   module _ (t j : ℕ) (e : byte l 0 ≡ got t j) where
-    pub one-unknown : 7 ≤ t → one_at l ≡ stop refusals.debug_tag 0
+    pub one-unknown : 7 ≤ t → attribute_row l ≡ stop refusals.debug_tag 0
     unfolding sequence.mapped bind attribute_at upto here follow refuse
     one-unknown h =
         let n : ¬ (t < length field_counts) = omega arith in
@@ -117,7 +110,7 @@ module _ (l : List ℕ) where
         rw (e, q)
 
     module _ (h : t < 7) where
-      pub one-stop : (c k : ℕ) → times (get_or field_counts t 0) varint_at l j ≡ stop c k → one_at l ≡ stop c k
+      pub one-stop : (c k : ℕ) → times (get_or field_counts t 0) varint_at l j ≡ stop c k → attribute_row l ≡ stop c k
       unfolding sequence.mapped bind attribute_at upto here follow
       one-stop c k f =
           let n : t < length field_counts = omega arith in
@@ -125,7 +118,7 @@ module _ (l : List ℕ) where
           rw (e, q, f)
 
       pub one-got : (vs : List ℕ) (k : ℕ) → times (get_or field_counts t 0) varint_at l j ≡ got vs k →
-          one_at l ≡ got (attribute_words (attribute_of t vs)) (length l)
+          attribute_row l ≡ got (attribute_words (attribute_of t vs)) (length l)
       unfolding sequence.mapped bind attribute_at upto here follow pure
       one-got vs k f =
           let n : t < length field_counts = omega arith in
@@ -133,45 +126,50 @@ module _ (l : List ℕ) where
           rw (e, q, f)
 
 -- The fields are copied from behind the tag.
-pub fields_at : (a : Spot) (j w v n : ℕ) (l s s' : List ℕ) (r : SpotRead) → a ≡ record { pos = j; word = w + 1; value = v } →
+pub fields_at : (a : Spot) (j w v n : ℕ) (l s s' : List ℕ) (r : Result Spot Refused) → a ≡ record { pos = j; word = w + 1; value = v } →
     Put (numbers n n Varint l a.pos) a.word s s' r → Put (numbers n n Varint l j) (w + 1) s s' r
 fields_at a j w v n l s s' r e x = subst (λ a. Put (numbers n n Varint l a.pos) a.word s s' r) e x
 
 -- What the copied fields of an attribute say.
 module _ (l s s₁ s₂ : List ℕ) (w t j n : ℕ) (e : byte l 0 ≡ got t j) (h : t < 7) (c : n ≡ get_or field_counts t 0) where
-  fields-stop : (g : Got (List ℕ)) (x : Refused) → times n varint_at l j ≡ g → Put (numbers n n Varint l j) (w + 1) s₁ s₂ (spot.Stop x) →
-      g ≡ stop x.no x.at
-  unfolding Put numbers several number_at sequence.mapped bind follow pure
-  fields-stop (got vs k) x f p = let y = rw f at p in let z : ◌≡◌ {A = ℕ} 0 1 = cc y.0 in let q : ⊥ = omega arith in absurd q
-  fields-stop (stop d k) x f p = let y = rw f at p in cc (y)
+  fields-refused : (g : Got (List ℕ)) (d k : ℕ) → times n varint_at l j ≡ g → numbers n n Varint l j ≡ stop d k → g ≡ stop d k
+  unfolding numbers several number_at sequence.mapped bind follow pure
+  fields-refused (got vs m) d k f p = let y = rw f at p in absurd (stop-not-got (sym y))
+  fields-refused (stop b m) d k f p = let y = rw f at p in cc y
 
-  pub attribute-refused : (s' : List ℕ) (x : Refused) → Put (numbers n n Varint l j) (w + 1) s₁ s₂ (spot.Stop x) → Row (one_at l) w s s' (spot.Stop x)
+  pub attribute-refused : (s' : List ℕ) (x : Refused) → Put (numbers n n Varint l j) (w + 1) s₁ s₂ (Err x) → Row (attribute_row l) w s s' (Err x)
   attribute-refused s' x p =
-      row-stop _ w s s' x (one-stop l t j e h x.no x.at (ap (λ n. times n varint_at l j) (sym c) ∙ fields-stop _ x refl p))
+      row-stop _ w s s' x
+      (one-stop l t j e h _ x.at
+      (ap (λ n. times n varint_at l j) (sym c) ∙ fields-refused _ _ x.at refl (put-err _ (w + 1) s₁ s₂ x p)))
 
-  fields-got : (g : Got (List ℕ)) (b : Spot) → times n varint_at l j ≡ g → Put (numbers n n Varint l j) (w + 1) s₁ s₂ (spot.Got b) →
+  fields-read : (g : Got (List ℕ)) (v : ℕ) (vs : List ℕ) (k : ℕ) → times n varint_at l j ≡ g → numbers n n Varint l j ≡ got (v, vs) k → g ≡ got vs k
+  unfolding numbers several number_at sequence.mapped bind follow pure
+  fields-read (got us m) v vs k f p = let y = rw f at p in ap₂ got (ap (λ x. x.1) (got-value y)) (got-next y)
+  fields-read (stop b m) v vs k f p = let y = rw f at p in absurd (stop-not-got y)
+
+  fields-got : (b : Spot) → Put (numbers n n Varint l j) (w + 1) s₁ s₂ (Ok b) →
       (vs : List ℕ) × (times n varint_at l j ≡ got vs b.pos) × (b.word ≡ w + 1 + length vs) × (s₂ ≡ put_words s₁ (w + 1) vs)
-  unfolding Put numbers several number_at sequence.mapped bind follow pure
-  fields-got (got vs k) b f p =
-      let y = rw f at p in
-      (vs, f ∙ ap (got vs) (cc y.0), cc y.0, y.1)
-  fields-got (stop d k) b f p = let y = rw f at p in let z : ◌≡◌ {A = ℕ} 0 1 = cc (y) in let q : ⊥ = omega arith in absurd q
+  fields-got b p =
+      let (vs, f, m, q) = put-got _ (w + 1) s₁ s₂ b p in
+      (vs, fields-read _ b.value vs b.pos refl f, m, q)
 
-  pub attribute-word : (b : Spot) → Put (numbers n n Varint l j) (w + 1) s₁ s₂ (spot.Got b) → b.word ≡ w + 1 + n
+  pub attribute-word : (b : Spot) → Put (numbers n n Varint l j) (w + 1) s₁ s₂ (Ok b) → b.word ≡ w + 1 + n
   attribute-word b p =
-      let (vs, f, m, q) = fields-got _ b refl p in omega (arith, m, times-length n varint_at l j vs b.pos f)
+      let (vs, f, m, q) = fields-got b p in omega (arith, m, times-length n varint_at l j vs b.pos f)
 
-  pub attribute-row : (b : Spot) (s' : List ℕ) → s₁ ≡ put_word s w t → Put (numbers n n Varint l j) (w + 1) s₁ s₂ (spot.Got b) →
-      s' ≡ put_words s₂ b.word (replicate (6 - n) 0) → (v : ℕ) →
-      Row (one_at l) w s s' (spot.Got record { pos = length l; word = w + 7; value = v })
+  pub attribute-row : (b : Spot) (s' : List ℕ) → s₁ ≡ put_word s w t → Put (numbers n n Varint l j) (w + 1) s₁ s₂ (Ok b) →
+      s' ≡ put_words s₂ b.word (take (6 - n) (drop n (replicate {A = ℕ} 6 0))) → (v : ℕ) →
+      Row (attribute_row l) w s s' (Ok record { pos = length l; word = w + 7; value = v })
   unfolding put_words
   attribute-row b s' a p z v =
-      let (vs, f, m, q) = fields-got _ b refl p in
+      let (vs, f, m, q) = fields-got b p in
       let k : length vs ≡ n = times-length n varint_at l j vs b.pos f in
-      let i : length vs ≤ 6 = omega (arith, counts-few t) in
-      let o : one_at l ≡ got (t ∷ (vs ++ replicate (6 - length vs) 0)) (length l) =
+      let few : n ≤ 6 = omega (arith, counts-few t) in
+      let i : length vs ≤ 6 = omega arith in
+      let o : attribute_row l ≡ got (t ∷ (vs ++ replicate (6 - length vs) 0)) (length l) =
       one-got l t j e h vs b.pos (ap (λ n. times n varint_at l j) (sym c) ∙ f) ∙ ap (λ x. got x (length l)) (words-of t vs i) in
-      let r : s' ≡ put_words (put_words s₁ (w + 1) vs) (w + 1 + length vs) (replicate (6 - length vs) 0) = rw (k, ← q) (rw (m, k) at z) in
+      let r : s' ≡ put_words (put_words s₁ (w + 1) vs) (w + 1 + length vs) (replicate (6 - length vs) 0) = rw (k, ← q) (z ∙ ap (put_words s₂ b.word) (zeros-left n few) ∙ ap (λ i. put_words s₂ i (replicate (6 - n) 0)) (m ∙ ap (λ i. w + 1 + i) k)) in
       row-got _ w s s' _ _ o (omega (arith, length-append vs (replicate (6 - length vs) 0), length-replicate {A = ℕ} (6 - length vs) 0))
       (r ∙ sym (put_words-append vs (replicate (6 - length vs) 0) s₁ (w + 1)) ∙ ap (λ s. put_words s (w + 1) (vs ++ replicate (6 - length vs) 0)) a)
 
@@ -197,7 +195,7 @@ times-place (suc n) l i c k h e = step-place n l i c k h (λ j d m. times-place 
 same-place : {c d k m : ℕ} → ◌≡◌ {A = Got (List ℕ)} (stop c k) (stop d m) → k ≡ m
 same-place e = cc
 
-module _ (l : List ℕ) (c k : ℕ) (e : one_at l ≡ stop c k) where
+module _ (l : List ℕ) (c k : ℕ) (e : attribute_row l ≡ stop c k) where
   place-fields : (t j : ℕ) → byte l 0 ≡ got t j → t < 7 → (g : Got (List ℕ)) → times (get_or field_counts t 0) varint_at l j ≡ g → k ≤ length l
   place-fields t j f h (got vs m) g = absurd (stop-not-got (sym e ∙ one-got l t j f h vs m g))
   place-fields t j f h (stop d m) g =
@@ -225,30 +223,36 @@ module _ (l : List ℕ) (c k : ℕ) (e : one_at l ≡ stop c k) where
   pub one_place : k ≤ length l
   one_place = place-tag (byte l 0) refl
 
-attribute-place : (l : List ℕ) (w : ℕ) (s s' : List ℕ) (x : Refused) → Row (one_at l) w s s' (spot.Stop x) → x.at ≤ length l
-attribute-place l w s s' x r = one_place l x.no x.at (row-refused _ w s s' x r)
-
-pub put-told : (g : Got (ℕ × List ℕ)) (w : ℕ) (s s' : List ℕ) {r x : SpotRead} → r ≡ x → Put g w s s' r → Put g w s s' x
-put-told g w s s' e h = subst (λ r. Put g w s s' r) e h
+attribute-place : (l : List ℕ) (w : ℕ) (s s' : List ℕ) (x : Refused) → Row (attribute_row l) w s s' (Err x) → x.at ≤ length l
+attribute-place l w s s' x r = one_place l _ x.at (row-refused _ w s s' x r)
 
 -- An attribute's row has seven words.
 attribute-long : (a : Attribute) → length (attribute_words a) ≡ 7
 unfolding attribute_words attribute_fields
 attribute-long a = refl
 
-pub seven : (l : List ℕ) (w : ℕ) (s s' : List ℕ) (t : Spot) → Row (one_at l) w s s' (spot.Got t) → t.word ≡ w + 7
+pub seven : (l : List ℕ) (w : ℕ) (s s' : List ℕ) (t : Spot) → Row (attribute_row l) w s s' (Ok t) → t.word ≡ w + 7
 seven l w s s' t r =
     let (ws, f, m, z) = row_put _ w s s' t r in omega (arith, m, go (attribute_at l 0) refl ws t.pos f)
   where
-    go : (g : Got Attribute) → attribute_at l 0 ≡ g → (ws : List ℕ) (j : ℕ) → one_at l ≡ got ws j → length ws ≡ 7
+    go : (g : Got Attribute) → attribute_at l 0 ≡ g → (ws : List ℕ) (j : ℕ) → attribute_row l ≡ got ws j → length ws ≡ 7
     go (got a k) e ws j f =
         ap length (sym (got-value (sym (map-got attribute_words attribute_at l 0 a k e) ∙ f))) ∙ attribute-long a
     go (stop c k) e ws j f = absurd (stop-not-got (sym (map-stop attribute_words attribute_at l 0 c k e) ∙ f))
 
 -- An attribute in the data is refused inside the data.
-pub attribute-inside : (s e : ℕ) (d : List ℕ) → s ≤ e → e ≤ length d → (w : ℕ) (t t' : List ℕ) (x : Refused) →
-    Row (one_at (take (e - s) (drop s d))) w t t' (spot.Stop x) → s + x.at ≤ length d
-attribute-inside s e d p q w t t' x r = omega (arith, part_length s e d p q, attribute-place _ w t t' x r)
+pub attribute-inside : (s e : ℕ) (d : List ℕ) → s ≤ e → e ≤ length d → (w : ℕ) (t t' : List ℕ) (r : Result Spot Refused) →
+    Row (attribute_row (take (e - s) (drop s d))) w t t' r → (x : Refused) → r ≡ Err x → s + x.at ≤ length d
+attribute-inside s e d p q w t t' r o x h =
+    omega (arith, part_length s e d p q, attribute-place _ w t t' x (subst (λ r. Row (attribute_row (take (e - s) (drop s d))) w t t' r) h o))
+
+-- The bytes of a part are bytes.
+pub part-bytes : (n b : ℕ) (l : List ℕ) → ((i : ℕ) → get_or l i 0 < 256) → (i : ℕ) → get_or (take n (drop b l)) i 0 < 256
+part-bytes n b l h i =
+    elim (dec_lt i n) [
+      | yes p ↦ rw (get_or-take n (drop b l) i 0 p, get_or-drop b l i 0) (h (b + i))
+      | no p ↦ omega (arith, get_or-eq_default (take n (drop b l)) 0 {n = i} (omega (arith, length-take n (drop b l))))
+    ]
 
 -- The first of more numbers.
 nums-front : (e n w : ℕ) (s : List ℕ) → e ≤ n → take e (nums n w s) ≡ nums e w s
@@ -278,7 +282,7 @@ cut-bad s e d h =
       | yes p ↦ choose_yes (dec_le s e) _ _ p ∙ choose_no (dec_le e (length d)) _ _ (h p)
     ]
 
-list-behind : (j : ℕ) (x : List ℕ) (w : ℕ) (s s₁ s' : List ℕ) (r : SpotRead) → s₁ ≡ put_words s w (list_words x) → (o : Option (List (List ℕ))) →
+list-behind : (j : ℕ) (x : List ℕ) (w : ℕ) (s s₁ s' : List ℕ) (r : Result Spot Refused) → s₁ ≡ put_words s w (list_words x) → (o : Option (List (List ℕ))) →
     Row (list_rows j o) (w + length (list_words x)) s₁ s' r → Row (list_rows j (consed (some x) o)) w s s' r
 unfolding list_rows consed
 list-behind j x w s s₁ s' r e none y = row-stopped _ _ _ w s₁ s s' r y
@@ -290,7 +294,7 @@ module _ (j : ℕ) (d run : List ℕ) where
   lists_left k s i = list_rows j (cuts (ahead 4 run k s i) d)
 
   -- None are left ..
-  pub lists-done : (k s i w v : ℕ) (t t' : List ℕ) → k ≤ 0 → t' ≡ t → Row (lists_left k s i) w t t' (spot.Got record { pos = j; word = w; value = v })
+  pub lists-done : (k s i w v : ℕ) (t t' : List ℕ) → k ≤ 0 → t' ≡ t → Row (lists_left k s i) w t t' (Ok record { pos = j; word = w; value = v })
   unfolding list_rows cuts put_words
   lists-done zero s i w v t t' h e = row-got _ w t t' [] _ refl (sym (add-zero w)) e
   lists-done (suc k) s i w v t t' h e = let z : ⊥ = omega arith in absurd z
@@ -303,14 +307,14 @@ module _ (j : ℕ) (d run : List ℕ) where
         ap (λ ss. cuts ss d) y ∙ ap (λ z. consed (cut s z d) (cuts (ahead 4 run r e h) d)) (before-ends 4 size run d long r e h x)
 
     -- .. the bounds of the first are bad ..
-    pub lists-bad : (y : Refused) → end_at 4 0 size s run i ≡ stop y.no y.at → (t' : List ℕ) → Row (lists_left k s i) w t t' (spot.Stop y)
+    pub lists-bad : (y : Refused) → end_at 4 0 size s run i ≡ stop_of y → (t' : List ℕ) → Row (lists_left k s i) w t t' (Err y)
     unfolding list_rows consed
     lists-bad y e t' =
-        let (z, h, q, f, g, bad) = end-stop 4 0 size s run i y.no y.at e in
+        let (z, h, q, f, g, bad) = end-stop 4 0 size s run i _ y.at e in
         row-stop _ w t t' y (rw (first-list z h q, cut-bad s z d (λ a b. bad (omega arith) (omega (arith, b)))) (cc))
 
     -- .. or it is put.
-    pub lists-more : (e h : ℕ) → end_at 4 0 size s run i ≡ got e h → (v : ℕ) (t₁ t₂ t' : List ℕ) (q : SpotRead) → t₁ ≡ put_word t w (e - s) →
+    pub lists-more : (e h : ℕ) → end_at 4 0 size s run i ≡ got e h → (v : ℕ) (t₁ t₂ t' : List ℕ) (q : Result Spot Refused) → t₁ ≡ put_word t w (e - s) →
         t₂ ≡ put_words t₁ (w + 1) (drop s (take e d)) → v ≡ w + (e - s + 1) → Row (lists_left r e h) v t₂ t' q →
         Row (lists_left k s i) w t t' q
     unfolding put_words
@@ -379,7 +383,7 @@ unfolding entries_by
 attributes-count l u vs k e = entries-count _ _ attribute_at _ _ _ _ vs k e ∙ length-nums u.count 4 (drop u.first l)
 
 pub attributes-word : (l : List ℕ) (u : Starts) (w : ℕ) (s s' : List ℕ) (t : Spot) →
-    Row (words_of attribute_words (entries_by 1 attribute_at l u)) w s s' (spot.Got t) → t.word ≡ w + 7 * u.count
+    Row (words_of attribute_words (entries_by 1 attribute_at l u)) w s s' (Ok t) → t.word ≡ w + 7 * u.count
 attributes-word l u w s s' t r =
     let (ws, e, m, p) = row_put _ w s s' t r in
     let (vs, f, g) = attributes-from _ ws t.pos e in
@@ -387,13 +391,13 @@ attributes-word l u w s s' t r =
 
 -- The section's answer: a refusal ..
 module _ (at : Filled) (g : Got DebugTables) (s s' : List ℕ) where
-  pub debug-stop : (x : Refused) → g ≡ stop x.no x.at → DebugFills at g s s' (debug.Stop x)
+  pub debug-stop : (x : Refused) → g ≡ stop_of x → DebugFills at g s s' (Err x)
   debug-stop x e = record { answer = sym (ap (debug_behind at) e); words = λ t j f. absurd (stop-not-got (sym e ∙ f)) }
 
   -- .. or the words of the tables.
   debug-got : (t : DebugTables) (j m n v : ℕ) → g ≡ got t j → m ≡ length t.attributes → n ≡ length t.lists →
       v ≡ at.words + length (debug_words t) → s' ≡ put_words s at.words (debug_words t) →
-      DebugFills at g s s' (debug.Got m n record { words = v; bytes = at.bytes })
+      DebugFills at g s s' (Ok record { attributes = m; lists = n; filled = record { words = v; bytes = at.bytes } })
   debug-got t j m n v e a b d p =
       let q : counted m n v at.bytes ≡ debug_behind at (got t j) = cc in
       record {
@@ -401,10 +405,15 @@ module _ (at : Filled) (g : Got DebugTables) (s s' : List ℕ) where
         words = λ u k f. p ∙ ap (λ t. put_words s at.words (debug_words t)) (got-value (sym e ∙ f));
       }
 
-pub debug-as : (at : Filled) {g h : Got DebugTables} {s s' : List ℕ} {r : DebugRead} → g ≡ h → DebugFills at g s s' r → DebugFills at h s s' r
+pub debug-as : (at : Filled) {g h : Got DebugTables} {s s' : List ℕ} {r : Result DebugFilled Refused} → g ≡ h → DebugFills at g s s' r → DebugFills at h s s' r
 debug-as at e x = rw e at x
 
--- The attributes that their starts cut, and then the lists.
+-- The attributes that their starts cut, and then the lists that theirs cut out of the ids.
+abbrev pub debug_from : List ℕ → Starts → Starts → Starts → Got DebugTables
+debug_from l lists ids attributes =
+    bind (rows 0 refusals.bounds 1 attribute_at (numbers_in 4 l attributes))
+    (λ found. lists_at found (cuts (numbers_in 4 l lists) (numbers_in 8 l ids))) l attributes.data
+
 module _ (l : List ℕ) (lists ids u : Starts) where
   abbrev each : Got (List Attribute)
   each = entries_by 1 attribute_at l u
@@ -424,24 +433,24 @@ module _ (l : List ℕ) (lists ids u : Starts) where
   from-got vs k e ls f = rw (e, f)
 
   module _ (at : Filled) (s s₁ : List ℕ) where
-    pub attributes-refused : (x : Refused) → Row (words_of attribute_words each) at.words s s₁ (spot.Stop x) →
-        DebugFills at (debug_from l lists ids u) s s₁ (debug.Stop x)
+    pub attributes-refused : (x : Refused) → Row (words_of attribute_words each) at.words s s₁ (Err x) →
+        DebugFills at (debug_from l lists ids u) s s₁ (Err x)
     attributes-refused x r =
-        debug-stop at _ s s₁ x (from-stop x.no x.at (attributes-not _ x.no x.at (row-refused _ at.words s s₁ x r)))
+        debug-stop at _ s s₁ x (from-stop _ x.at (attributes-not _ _ x.at (row-refused _ at.words s s₁ x r)))
 
-    module _ (t : Spot) (r : Row (words_of attribute_words each) at.words s s₁ (spot.Got t)) (s' : List ℕ) where
+    module _ (t : Spot) (r : Row (words_of attribute_words each) at.words s s₁ (Ok t)) (s' : List ℕ) where
       abbrev behind : Got (List ℕ)
       behind = list_rows t.pos (cuts (numbers_in 4 l lists) (numbers_in 8 l ids))
 
-      pub lists-refused : (x : Refused) → Row behind t.word s₁ s' (spot.Stop x) → DebugFills at (debug_from l lists ids u) s s' (debug.Stop x)
+      pub lists-refused : (x : Refused) → Row behind t.word s₁ s' (Err x) → DebugFills at (debug_from l lists ids u) s s' (Err x)
       lists-refused x o =
           let (ws, e, m, p) = row_put _ at.words s s₁ t r in
           let (vs, f, g) = attributes-from _ ws t.pos e in
-          let (n, q) = lists-not t.pos _ x.no x.at (row-refused _ t.word s₁ s' x o) in
+          let (n, q) = lists-not t.pos _ _ x.at (row-refused _ t.word s₁ s' x o) in
           debug-stop at _ s s' x (from-bad vs t.pos f n ∙ q)
 
-      pub debug-filled : (v : Spot) → Row behind t.word s₁ s' (spot.Got v) →
-          DebugFills at (debug_from l lists ids u) s s' (debug.Got u.count lists.count record { words = v.word; bytes = at.bytes })
+      pub debug-filled : (v : Spot) → Row behind t.word s₁ s' (Ok v) →
+          DebugFills at (debug_from l lists ids u) s s' (Ok record { attributes = u.count; lists = lists.count; filled = record { words = v.word; bytes = at.bytes } })
       unfolding debug_words
       debug-filled v o =
           let (ws, e, i, p) = row_put _ at.words s s₁ t r in
@@ -474,7 +483,7 @@ module _ (l : List ℕ) where
   unfolding debug_at
   starts-refused c k e = bind-stop (padded_at 4 4) _ l 0 c k (sym (array-refused 4 4 l 0 c k e))
 
-  module _ (lists : Starts) (e : array_at 4 4 l 0 ≡ got_starts 4 l (starts.Got lists)) where
+  module _ (lists : Starts) (e : array_at 4 4 l 0 ≡ got_starts 4 l (Ok lists)) where
     abbrev i : ℕ
     i = lists.data
 
@@ -486,7 +495,7 @@ module _ (l : List ℕ) where
     ids-refused c k f =
         bind-got (padded_at 4 4) _ l 0 _ i (sym starts-got) ∙ bind-stop (padded_at 8 8) _ l i c k (sym (array-refused 8 8 l i c k f))
 
-    module _ (ids : Starts) (f : array_at 8 8 l i ≡ got_starts 8 l (starts.Got ids)) where
+    module _ (ids : Starts) (f : array_at 8 8 l i ≡ got_starts 8 l (Ok ids)) where
       abbrev j : ℕ
       j = ids.data
 
@@ -498,6 +507,6 @@ module _ (l : List ℕ) where
       unfolding follow
       offsets-refused c k g = behind-ids ∙ rw (attributes-behind l j, array-refused 4 4 l j c k g)
 
-      pub offsets-got : (u : Starts) → array_at 4 4 l j ≡ got_starts 4 l (starts.Got u) → debug_from l lists ids u ≡ debug_at l 0
+      pub offsets-got : (u : Starts) → array_at 4 4 l j ≡ got_starts 4 l (Ok u) → debug_from l lists ids u ≡ debug_at l 0
       unfolding follow bind
       offsets-got u g = sym (behind-ids ∙ rw (attributes-behind l j, array-padded 4 4 l j _ _ _ g))

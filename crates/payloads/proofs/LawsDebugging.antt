@@ -6,26 +6,29 @@ use native.Mathlib.Omega.{arith}
 use mathlib.Core.Bool.{true, false}
 use mathlib.Core.List.{List, [], ◌∷◌, ◌++◌, append_assoc, append-nil}
 use lib.ListN.{length, length-append}
+use Rattle.std.specs.Prelude.{Result, Ok, Err}
 use Rattle.exact.specs.Got.{Got, got, stop}
 use Rattle.exact.specs.Tiling.{join}
 use Rattle.exact.specs.Entries.{raised}
 use Rattle.exact.proofs.LawsExact.{stop-not-got, got-value}
-use Rattle.enums.specs.Refusals as refusals
+use Rattle.enums.specs.declared.Stage.TheVariants as stage
 use Rattle.format.specs.Debug.{DebugTables, no_debug}
 use Rattle.format.specs.Read.{at_stage}
 use Rattle.format.specs.Decode.{most_bytes}
 use Rattle.format.specs.DecodeDebug.{debug_at}
 use Rattle.format.specs.Sound.{All, Fits}
+use Rattle.container.specs.Shown.{stopped_at}
 use Rattle.container.specs.declared.sections.SectionPlace.{SectionPlace}
+use Rattle.reading.specs.Shown.{stop_of}
 use Rattle.reading.specs.declared.Refused.{Refused}
 use Rattle.format.proofs.LawsSoundWords.{attributes-words}
 use Rattle.sheet.specs.Store.{put_words, put_runs}
 use Rattle.sheet.proofs.LawsStore.{put_words-append, put_words-swap}
+use Rattle.payloads.specs.Answers.{raised_answer}
 use Rattle.payloads.specs.Fill.{Rows}
-use Rattle.payloads.specs.DebugRows.{debug_words, debug_count, debug_behind, DebugFills}
+use Rattle.payloads.specs.DebugRows.{debug_words, counted, debug_behind, DebugFills}
 use Rattle.payloads.specs.declared.answers.Filled.{Filled}
-use Rattle.payloads.specs.declared.debug.DebugRead.{DebugRead}
-use Rattle.payloads.specs.declared.debug.DebugRead.TheVariants as debug
+use Rattle.payloads.specs.declared.debug.DebugFilled.{DebugFilled}
 use Rattle.payloads.specs.Pass.{
   payload_in,
   in_place,
@@ -37,76 +40,66 @@ use Rattle.payloads.specs.Pass.{
   list_table,
   with_debug,
 }
-use Rattle.payloads.specs.declared.pass.Pass.{Pass}
-use Rattle.payloads.specs.declared.pass.Pass.TheVariants as pass
 use Rattle.payloads.proofs.LawsFilled.{words_more, runs-more, filled_more}
 use Rattle.payloads.proofs.LawsSizes.{in-place-debug-small}
-use Rattle.payloads.proofs.LawsPass.{filled_at, in-absent, in-present, goes-refused, goes_on}
+use Rattle.payloads.proofs.LawsPass.{in-absent, in-present, goes-refused, goes_on}
 
 module _ (at : Filled) {s s' : List ℕ} where
   -- What the answer says of the model: a refusal ..
-  pub debug-stopped : (g : Got DebugTables) (r : DebugRead) (x : Refused) → r ≡ debug.Stop x → DebugFills at g s s' r →
-      g ≡ stop x.no x.at
-  debug-stopped (got t j) r x e f = absurd (let z : ◌≡◌ {A = ℕ} 0 1 = cc (sym (ap debug_count e) ∙ f.answer) in omega arith)
-  debug-stopped (stop c k) r x e f = cc (sym (ap debug_count e) ∙ f.answer)
+  pub debug-stopped : (g : Got DebugTables) (x : Refused) → DebugFills at g s s' (Err x) → g ≡ stop_of x
+  debug-stopped (got t j) x f = absurd (let z : ◌≡◌ {A = ℕ} 0 1 = cc f.answer in omega arith)
+  debug-stopped (stop c k) x f = cc f.answer
 
   -- .. or tables.
-  pub debug-read : (g : Got DebugTables) (r : DebugRead) (m n : ℕ) (next : Filled) → r ≡ debug.Got m n next → DebugFills at g s s' r →
-      (t : DebugTables) × (j : ℕ) × (g ≡ got t j) × (m ≡ length t.attributes) × (n ≡ length t.lists) ×
-      (next.words ≡ at.words + length (debug_words t)) × (next.bytes ≡ at.bytes)
-  debug-read (got t j) r m n next e f =
-      let q = sym (ap debug_count e) ∙ f.answer in
-      (t, j, refl, cc q, cc q, cc q, cc q)
-  debug-read (stop c k) r m n next e f =
-      absurd (let z : ◌≡◌ {A = ℕ} 0 1 = cc (sym (ap debug_count e) ∙ f.answer) in omega arith)
+  pub debug-read : (g : Got DebugTables) (d : DebugFilled) → DebugFills at g s s' (Ok d) →
+      (t : DebugTables) × (j : ℕ) × (g ≡ got t j) ×
+      (counted d.attributes d.lists d.filled.words d.filled.bytes ≡ debug_behind at (got t j))
+  debug-read (got t j) d f = (t, j, refl, f.answer)
+  debug-read (stop c k) d f = absurd (let z : ◌≡◌ {A = ℕ} 0 1 = cc f.answer in omega arith)
 
   -- How to say so of tables ..
-  pub debug-got : (g : Got DebugTables) (r : DebugRead) (t : DebugTables) (j : ℕ) → g ≡ got t j → debug_count r ≡ debug_behind at (got t j) →
-      s' ≡ put_words s at.words (debug_words t) → DebugFills at g s s' r
-  debug-got g r t j e a w =
+  pub debug-got : (g : Got DebugTables) (d : DebugFilled) (t : DebugTables) (j : ℕ) → g ≡ got t j →
+      counted d.attributes d.lists d.filled.words d.filled.bytes ≡ debug_behind at (got t j) → s' ≡ put_words s at.words (debug_words t) →
+      DebugFills at g s s' (Ok d)
+  debug-got g d t j e a w =
       record {
         answer = a ∙ ap (debug_behind at) (sym e);
         words = λ u k f. w ∙ ap (λ z. put_words s at.words (debug_words z)) (got-value (sym e ∙ f));
       }
 
   -- .. and of a refusal.
-  pub debug-not : (g : Got DebugTables) (x : Refused) → g ≡ stop x.no x.at → DebugFills at g s s' (debug.Stop x)
+  pub debug-not : (g : Got DebugTables) (x : Refused) → g ≡ stop_of x → DebugFills at g s s' (Err x)
   debug-not g x e =
       record { answer = ap (debug_behind at) (sym e); words = λ u k f. absurd (stop-not-got (sym e ∙ f)) }
 
 module _ (at : Filled) (file : List ℕ) (p : SectionPlace) (f : List ℕ → Got DebugTables) where
   -- No tables of an absent section.
-  pub absent-debug : {s : List ℕ} → p.presence ≡ false → DebugFills at (in_place file p f no_debug) s s (debug.Got 0 0 at)
+  pub absent-debug : {s : List ℕ} → p.presence ≡ false →
+      DebugFills at (in_place file p f no_debug) s s (Ok record { attributes = 0; lists = 0; filled = at })
   unfolding put_words debug_words
-  absent-debug h = debug-got at _ (debug.Got 0 0 at) no_debug 0 (in-absent file p f no_debug h) (rw add-zero) refl
+  absent-debug h = debug-got at _ _ no_debug 0 (in-absent file p f no_debug h) (rw add-zero) refl
 
-  module _ (l : List ℕ) (r : DebugRead) (h : p.presence ≡ true) (same : l ≡ payload_in file p) where
-    there : in_place file p f no_debug ≡ raised p.start (f l)
-    there = in-present file p f no_debug h ∙ ap (λ z. raised p.start (f z)) (sym same)
+  -- Of another what its payload gives, in the places of the file.
+  pub present-debug : {s s' : List ℕ} (l : List ℕ) (n : ℕ) (r : Result DebugFilled Refused) → p.presence ≡ true → n ≡ p.start →
+      l ≡ payload_in file p → DebugFills at (f l) s s' r → DebugFills at (in_place file p f no_debug) s s' (raised_answer n r)
+  unfolding raised
+  present-debug {s} {s'} l n r here begins same k = go r k
+    where
+      there : in_place file p f no_debug ≡ raised n (f l)
+      there = in-present file p f no_debug here ∙ ap₂ (λ n z. raised n (f z)) (sym begins) (sym same)
 
-    -- A refusal, in the places of the file ..
-    pub present-debug-stop : {s s' : List ℕ} (x : Refused) → r ≡ debug.Stop x → DebugFills at (f l) s s' r →
-        DebugFills at (in_place file p f no_debug) s s' (debug.Stop (record { no = x.no; at = p.start + x.at }))
-    unfolding raised
-    present-debug-stop x e k = debug-not at _ _ (there ∙ ap (raised p.start) (debug-stopped at (f l) r x e k))
-
-    -- .. or tables.
-    pub present-debug : {s s' : List ℕ} (m n : ℕ) (next : Filled) → r ≡ debug.Got m n next → DebugFills at (f l) s s' r →
-        DebugFills at (in_place file p f no_debug) s s' (debug.Got m n next)
-    unfolding raised
-    present-debug m n next e k =
-        let (t, j, g, a, b, c, d) = debug-read at (f l) r m n next e k in
-        debug-got at _ (debug.Got m n next) t (p.start + j) (there ∙ ap (raised p.start) g)
-        (sym (ap debug_count e) ∙ k.answer ∙ ap (debug_behind at) g) (k.words t j g)
+      go : (r : Result DebugFilled Refused) → DebugFills at (f l) s s' r → DebugFills at (in_place file p f no_debug) s s' (raised_answer n r)
+      go (Ok d) k =
+          let (t, j, g, a) = debug-read at (f l) d k in
+          debug-got at _ d t (n + j) (there ∙ ap (raised n) g) a (k.words t j g)
+      go (Err x) k = debug-not at _ _ (there ∙ ap (raised n) (debug-stopped at (f l) x k))
 
 -- A section that is refused.
-pub debug-refused : (n m : ℕ) (g : Got DebugTables) (from : Pass) (at : Filled) {v : ℕ} {s s' p p' : List ℕ} {r : DebugRead} {x : Refused} →
-    from ≡ pass.Got at v → r ≡ debug.Stop x → DebugFills at g s s' r →
-    Goes n m (with_debug g) from s s' p p' (pass.Stop (record { no = x.no; stage = refusals.at_debug; at = x.at }))
+pub debug-refused : (n m : ℕ) (g : Got DebugTables) (at : Filled) (v : ℕ) {s s' p p' : List ℕ} (x : Refused) → g ≡ stop_of x →
+    Goes n m (with_debug g) (Ok (at, v)) s s' p p' (Err (stopped_at x stage.Debug))
 unfolding with_debug at_stage
-debug-refused n m g from at {v} {x = x} e told f =
-    goes-refused n m (with_debug g) from at v (record { no = x.no; stage = refusals.at_debug; at = x.at }) e
-    (λ y t. ap (λ z. with_debug z y) (debug-stopped at g _ x told f))
+debug-refused n m g at v x e =
+    goes-refused n m (with_debug g) at v (stopped_at x stage.Debug) (λ y t. ap (λ z. with_debug z y) e)
 
 -- Two tables more in the sheet: their rows, and then their start words and row counts.
 two-more : (s : List ℕ) (ts : List Rows) (t : DebugTables) → length ts ≡ 5 →
@@ -172,29 +165,33 @@ debug-bound file p b l t j e =
     omega (arith, length-append (attribute_table t).words (list_table t).words, a.0, c.0)
 
 -- .. and so not too many attributes.
-pub attributes-few : (at : Filled) (g : Got DebugTables) (r : DebugRead) (m n : ℕ) {next : Filled} {s s' : List ℕ} → r ≡ debug.Got m n next →
-    DebugFills at g s s' r → ((t : DebugTables) (j : ℕ) → g ≡ got t j → length (debug_words t) ≤ 2 ^ 34) → m * 7 ≤ 2 ^ 34
+pub attributes-few : (at : Filled) (g : Got DebugTables) (d : DebugFilled) {s s' : List ℕ} → DebugFills at g s s' (Ok d) →
+    ((t : DebugTables) (j : ℕ) → g ≡ got t j → length (debug_words t) ≤ 2 ^ 34) → d.attributes * 7 ≤ 2 ^ 34
 unfolding debug_words
-attributes-few at g r m n {next} e f bound =
-    let (t, j, q, a, b, c, d) = debug-read at g r m n next e f in
+attributes-few at g d f bound =
+    let (t, j, q, a) = debug-read at g d f in
+    let m : d.attributes ≡ length t.attributes = cc a in
     omega (arith, bound t j q, attributes-words t.attributes, length-append (attribute_table t).words (list_table t).words)
 
 -- Two tables more, which fit.
-pub debug-goes : (g : Got DebugTables) (from : Pass) (at : Filled) (val : ℕ) {s s₁ s₂ s' p : List ℕ} (r : DebugRead) (m n : ℕ) (next : Filled) →
-    from ≡ pass.Got at val → r ≡ debug.Got m n next → DebugFills at g s s₁ r →
+pub debug-goes : (g : Got DebugTables) (at : Filled) (val : ℕ) {s s₁ s₂ s' p : List ℕ} (d : DebugFilled) → DebugFills at g s s₁ (Ok d) →
     ((t : DebugTables) (j : ℕ) → g ≡ got t j → length (debug_words t) ≤ 2 ^ 34) →
-    s₂ ≡ put_words s₁ 15 (at.words ∷ m ∷ []) → s' ≡ put_words s₂ 17 ((at.words + m * 7) ∷ n ∷ []) →
-    Goes 5 7 (with_debug g) from s s' p p (pass.Got next 0)
+    s₂ ≡ put_words s₁ 15 (at.words ∷ d.attributes ∷ []) → s' ≡ put_words s₂ 17 ((at.words + d.attributes * 7) ∷ d.lists ∷ []) →
+    Goes 5 7 (with_debug g) (Ok (at, val)) s s' p p (Ok (d.filled, 0))
 unfolding with_debug at_stage
-debug-goes g from at val {s} {s₁} {s₂} {s'} {p} r m n next e told f bound put₁ put₂ =
-    let (t, j, got-g, a, b, c, d) = debug-read at g r m n next told f in
+debug-goes g at val {s} {s₁} {s₂} {s'} {p} d f bound put₁ put₂ =
+    let (t, j, got-g, counts) = debug-read at g d f in
     let few = bound t j got-g in
-    goes_on 5 7 (with_debug g) from at val (pass.Got next 0)
-    (λ y. record { tables = y.tables ++ (attribute_table t ∷ list_table t ∷ []); value = 0 }) e
-    (λ y q y-small.
+    let a : d.attributes ≡ length t.attributes = cc counts in
+    let b : d.lists ≡ length t.lists = cc counts in
+    let c : d.filled.words ≡ at.words + length (debug_words t) = cc counts in
+    let e : d.filled.bytes ≡ at.bytes = cc counts in
+    goes_on 5 7 (with_debug g) at val (Ok (d.filled, 0))
+    (λ y. record { tables = y.tables ++ (attribute_table t ∷ list_table t ∷ []); value = 0 })
+    (λ y q o y-small.
     let ts = y.tables in
-    let at_words : at.words ≡ 19 + length (all_words ts) = ap (λ z. (filled_at z).words) q in
-    let at-bytes : at.bytes ≡ length (join (all_runs ts)) = ap (λ z. (filled_at z).bytes) q in
+    let at_words : at.words ≡ 19 + length (all_words ts) = ap (λ z. z.words) q in
+    let at-bytes : at.bytes ≡ length (join (all_runs ts)) = ap (λ z. z.bytes) q in
     let both = ts ++ (attribute_table t ∷ list_table t ∷ []) in
     let more-words : length (all_words both) ≡ length (all_words ts) + length (debug_words t) =
     ap length (words-two ts t) ∙ length-append (all_words ts) (debug_words t) in
@@ -202,10 +199,10 @@ debug-goes g from at val {s} {s₁} {s₂} {s'} {p} r m n next e told f bound pu
     record {
       reads = ap (λ z. with_debug z y) got-g;
       answer =
-          ap (λ z. pass.Got z 0)
+          ap (λ z. Ok (z, 0))
           (ap₂ (λ i k. record { words = i; bytes = k })
           (c ∙ (let z : at.words + length (debug_words t) ≡ 19 + length (all_words both) = omega arith in z))
-          (d ∙ at-bytes ∙ sym more_bytes));
+          (e ∙ at-bytes ∙ sym more_bytes));
       small =
           record {
             count = length-append ts _ ∙ ap (λ k. k + 2) y-small.count;

@@ -22,11 +22,12 @@ use Rattle.format.specs.Debug.{attribute_of}
 use Rattle.format.specs.Sheet.{attribute_words}
 use Rattle.sheet.specs.Store.{put_words}
 use Rattle.entries.proofs.LawsEntries.{part_length}
-use Rattle.payloads.specs.declared.fields.SpotRead.TheVariants as spot
+use Rattle.std.specs.Prelude.{Ok}
 use Rattle.payloads.specs.TypeRows.{Row}
 use Rattle.payloads.proofs.LawsPast.{put_words-past}
 use Rattle.payloads.proofs.LawsEntryRows.{row-got}
-use Rattle.payloads.proofs.LawsDebug.{one_at, one-got, seven}
+use Rattle.payloads.proofs.LawsDebug.{one-got, seven}
+use Rattle.payloads.specs.DebugRows.{attribute_row}
 
 -- How many bytes are below 128.
 unfoldable pub low : List ℕ → ℕ
@@ -120,7 +121,7 @@ ends_read w n m fits few h =
 -- An attribute whose numbers can all be read, as a window of w bytes shows.
 pub entry_whole : (d : List ℕ) (s e w : ℕ) → s < e → e ≤ length d → e - s ≤ w → get_or d s 0 < 7 →
     (vs : List ℕ) × (j : ℕ) × (times (get_or field_counts (get_or d s 0) 0) varint_at (take (e - s) (take w (drop s d))) 1 ≡ got vs j) →
-    (ws : List ℕ) × (one_at (take (e - s) (drop s d)) ≡ got ws (e - s))
+    (ws : List ℕ) × (attribute_row (take (e - s) (drop s d)) ≡ got ws (e - s))
 entry_whole d s e w p q r t (vs, j, f) =
     let l : List ℕ = take (e - s) (drop s d) in
     let c : ℕ = get_or d s 0 in
@@ -132,8 +133,8 @@ entry_whole d s e w p q r t (vs, j, f) =
     (attribute_words (attribute_of c vs), one-got l c 1 b t vs j g ∙ ap (λ k. got (attribute_words (attribute_of c vs)) k) n)
 
 -- Its row in a sheet that has no word for it.
-pub whole_row : (l ws : List ℕ) (j w v : ℕ) (s : List ℕ) → length s / 8 ≤ w → one_at l ≡ got ws j →
-    Row (one_at l) w s s (spot.Got record { pos = j; word = w + 7; value = v })
+pub whole_row : (l ws : List ℕ) (j w v : ℕ) (s : List ℕ) → length s / 8 ≤ w → attribute_row l ≡ got ws j →
+    Row (attribute_row l) w s s (Ok record { pos = j; word = w + 7; value = v })
 whole_row l ws j w v s h e =
     let n = seven l w s (put_words s w ws) (record { pos = j; word = w + length ws; value = v }) (row-got _ w s _ ws _ e refl refl) in
     row-got _ w s s ws _ e (sym n) (sym (put_words-past ws s w h))

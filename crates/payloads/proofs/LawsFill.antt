@@ -3,16 +3,16 @@ use mathlib.Core.Path.{◌≡◌, refl, sym, ap, ◌∙◌}
 use Prim.Native.Nat.{ℕ}
 use native.Mathlib.Omega.{arith}
 use mathlib.Core.List.{List}
+use Rattle.std.specs.Prelude.{Result, Ok, Err}
 use Rattle.exact.specs.Got.{Got, got, stop}
 use Rattle.exact.proofs.LawsExact.{stop-not-got, got-value}
+use Rattle.reading.specs.Shown.{stop_of}
 use Rattle.reading.specs.declared.Refused.{Refused}
 use Rattle.sheet.specs.Store.{put_words, put_runs}
 use Rattle.payloads.specs.Fill.{counted, refused, Rows, count_of, behind, Fills}
 use Rattle.payloads.specs.declared.answers.Filled.{Filled}
-use Rattle.payloads.specs.declared.answers.TableRead.{TableRead}
-use Rattle.payloads.specs.declared.answers.TableRead.TheVariants as table
 
-module _ (at : Filled) {g : Got Rows} {sheet sheet' pool pool' : List ℕ} {r : TableRead} where
+module _ (at : Filled) {g : Got Rows} {sheet sheet' pool pool' : List ℕ} {r : Result (ℕ × Filled) Refused} where
   -- Rows were read, answered and filled in.
   pub fills-got : (v : Rows) (j : ℕ) → g ≡ got v j → count_of r ≡ behind at (got v j) →
       sheet' ≡ put_words sheet at.words v.words → pool' ≡ put_runs pool at.bytes v.runs →
@@ -36,15 +36,22 @@ module _ (at : Filled) {g : Got Rows} {sheet sheet' pool pool' : List ℕ} {r : 
 counted-not-refused : {n w b c k : ℕ} → counted n w b ≡ refused c k → ⊥
 counted-not-refused e = let z : ◌≡◌ {A = ℕ} 0 1 = cc in omega arith
 
--- What was answered tells whether rows were read.
-module _ (at : Filled) {sheet sheet' pool pool' : List ℕ} {r : TableRead} where
-  pub fills-some : {g : Got Rows} {n : ℕ} {f : Filled} → r ≡ table.Got n f → Fills at g sheet sheet' pool pool' r →
-      (v : Rows) × (j : ℕ) × (g ≡ got v j)
-  fills-some {g = got v j} e x = (v, j, refl)
-  fills-some {g = stop c k} e x = absurd (counted-not-refused (sym (ap count_of e) ∙ x.answer))
+-- A refusal, whatever the stores are.
+pub fills-err : (at : Filled) {g : Got Rows} {sheet sheet' pool pool' : List ℕ} (x : Refused) → g ≡ stop_of x → Fills at g sheet sheet' pool pool' (Err x)
+fills-err at x e = fills-stop at _ x.at e refl
 
-  -- A refusal says nothing of the stores.
-  pub fills-none : {g : Got Rows} {z : Refused} {t t' q q' : List ℕ} → r ≡ table.Stop z → Fills at g sheet sheet' pool pool' r →
-      Fills at g t t' q q' (table.Stop z)
-  fills-none {g = got v j} e x = absurd (counted-not-refused (sym x.answer ∙ ap count_of e))
-  fills-none {g = stop c k} e x = fills-stop at c k refl (sym (ap count_of e) ∙ x.answer)
+-- What was answered tells what the model reads: rows ..
+module _ (at : Filled) {sheet sheet' pool pool' : List ℕ} where
+  pub fills-read : (g : Got Rows) {n : ℕ} {next : Filled} → Fills at g sheet sheet' pool pool' (Ok (n, next)) →
+      (v : Rows) × (j : ℕ) × (g ≡ got v j) × (counted n next.words next.bytes ≡ behind at (got v j))
+  fills-read (got v j) x = (v, j, refl, x.answer)
+  fills-read (stop c k) x = absurd (counted-not-refused x.answer)
+
+  -- .. or a refusal.
+  pub fills-stopped : (g : Got Rows) (x : Refused) → Fills at g sheet sheet' pool pool' (Err x) → g ≡ stop_of x
+  fills-stopped (got v j) x f = absurd (counted-not-refused (sym f.answer))
+  fills-stopped (stop c k) x f = cc f.answer
+
+  -- It says nothing of the stores.
+  pub fills-none : {g : Got Rows} {x : Refused} {t t' q q' : List ℕ} → Fills at g sheet sheet' pool pool' (Err x) → Fills at g t t' q q' (Err x)
+  fills-none {g} {x} f = fills-err at x (fills-stopped g x f)

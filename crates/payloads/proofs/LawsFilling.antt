@@ -13,11 +13,11 @@ use Rattle.exact.specs.Repeat.{times}
 use Rattle.exact.specs.Tiling.{join}
 use Rattle.sheet.specs.Store.{put_words, put_runs}
 use Rattle.sheet.proofs.LawsStore.{put_words-append, put_runs-append}
+use Rattle.std.specs.Prelude.{Result, Ok, Err}
+use Rattle.reading.specs.Shown.{stop_of}
 use Rattle.reading.specs.declared.Refused.{Refused}
-use Rattle.payloads.specs.Fill.{Rows, Fills, count_of}
+use Rattle.payloads.specs.Fill.{refused, Rows, Fills, count_of}
 use Rattle.payloads.specs.declared.answers.Filled.{Filled}
-use Rattle.payloads.specs.declared.answers.TableRead.{TableRead}
-use Rattle.payloads.specs.declared.answers.TableRead.TheVariants as table
 use Rattle.payloads.proofs.LawsFill.{fills-got, fills-stop}
 
 -- Lists side by side are joined side by side.
@@ -45,26 +45,26 @@ module _ {A : Type 0} (q : Parser A) (l : List ℕ) (i : ℕ) where
 module _ {A : Type 0} (ws : A → List ℕ) (rs : A → List (List ℕ)) where
   -- Rows that are read are put from word w and byte b on, and the answer says that there are m in all; a refusal is
   -- handed out.
-  unfoldable pub Filling : ℕ → Got (List A) → ℕ → ℕ → List ℕ → List ℕ → List ℕ → List ℕ → TableRead → Type 0
+  unfoldable pub Filling : ℕ → Got (List A) → ℕ → ℕ → List ℕ → List ℕ → List ℕ → List ℕ → Result (ℕ × Filled) Refused → Type 0
   Filling m (got vs j) w b s s' p p' r =
-      (r ≡ table.Got m record { words = w + length (join (map ws vs)); bytes = b + length (join (join (map rs vs))) }) ×
+      (r ≡ Ok (m, record { words = w + length (join (map ws vs)); bytes = b + length (join (join (map rs vs))) })) ×
       (s' ≡ put_words s w (join (map ws vs))) × (p' ≡ put_runs p b (join (map rs vs)))
-  Filling m (stop c k) w b s s' p p' r = r ≡ table.Stop record { no = c; at = k }
+  Filling m (stop c k) w b s s' p p' r = count_of r ≡ refused c k
 
   module _ (m w b : ℕ) (s s' p p' : List ℕ) where
     -- None are left ..
     pub filling-none : (g : Got (List A)) (j : ℕ) → g ≡ got [] j → s' ≡ s → p' ≡ p →
-        Filling m g w b s s' p p' (table.Got m record { words = w; bytes = b })
+        Filling m g w b s s' p p' (Ok (m, record { words = w; bytes = b }))
     unfolding put_words put_runs Filling
     filling-none g j h e f = rw h (rw (add-zero w, add-zero b) refl, e, f)
 
     -- .. one is refused ..
-    pub filling-stop : (g : Got (List A)) (x : Refused) → g ≡ stop x.no x.at → Filling m g w b s s' p p' (table.Stop x)
+    pub filling-stop : (g : Got (List A)) (x : Refused) → g ≡ stop_of x → Filling m g w b s s' p p' (Err x)
     unfolding Filling
     filling-stop g x e = rw e refl
 
     -- .. or one is read and put.
-    pub filling-more : (v : A) (s₁ p₁ : List ℕ) (r : TableRead) (g h : Got (List A)) → g ≡ follow h (λ vs k. got (v ∷ vs) k) →
+    pub filling-more : (v : A) (s₁ p₁ : List ℕ) (r : Result (ℕ × Filled) Refused) (g h : Got (List A)) → g ≡ follow h (λ vs k. got (v ∷ vs) k) →
         s₁ ≡ put_words s w (ws v) → p₁ ≡ put_runs p b (rs v) →
         Filling m h (w + length (ws v)) (b + length (join (rs v))) s₁ s' p₁ p' r → Filling m g w b s s' p p' r
     unfolding follow Filling
@@ -84,16 +84,16 @@ module _ {A : Type 0} (ws : A → List ℕ) (rs : A → List (List ℕ)) where
   -- All rows are filled in: the answer and the stores are as the model says.
   pub filling-fills : (rows : List A → Rows) →
       ((vs : List A) → rows vs ≡ record { rows = length vs; words = join (map ws vs); runs = join (map rs vs) }) → (n : ℕ)
-      (at : Filled) (s s' p p' : List ℕ) (r : TableRead) (g : Got (List A)) → ((vs : List A) (j : ℕ) → g ≡ got vs j → length vs ≡ n) →
+      (at : Filled) (s s' p p' : List ℕ) (r : Result (ℕ × Filled) Refused) (g : Got (List A)) → ((vs : List A) (j : ℕ) → g ≡ got vs j → length vs ≡ n) →
       Filling n g at.words at.bytes s s' p p' r → Fills at (follow g (λ vs j. got (rows vs) j)) s s' p p' r
   unfolding Filling follow
   filling-fills rows e n at s s' p p' r (got vs j) t (a, y, z) =
       fills-got at (record { rows = length vs; words = join (map ws vs); runs = join (map rs vs) }) j (ap (λ v. got v j) (e vs))
       (ap count_of a ∙ rw (t vs j refl) refl) y z
-  filling-fills rows e n at s s' p p' r (stop c k) t a = fills-stop at c k refl (ap count_of a)
+  filling-fills rows e n at s s' p p' r (stop c k) t a = fills-stop at c k refl a
 
 -- Where the rows end says nothing of the answer.
-pub fills-upto : {A : Type 0} (rows : A → Rows) (m : ℕ) (at : Filled) (s s' p p' : List ℕ) (r : TableRead) (g : Got A) →
+pub fills-upto : {A : Type 0} (rows : A → Rows) (m : ℕ) (at : Filled) (s s' p p' : List ℕ) (r : Result (ℕ × Filled) Refused) (g : Got A) →
     Fills at (follow g (λ v j. got (rows v) j)) s s' p p' r →
     Fills at (follow g (λ v j. got (rows v) m)) s s' p p' r
 unfolding follow

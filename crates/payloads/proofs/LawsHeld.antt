@@ -1,12 +1,12 @@
 -- The payloads at the places that header and walk hold are the payloads of the sections that count, and what a table fills
 -- in does not depend on where its payload stands. Assumes nothing.
 use mathlib.Core.Path.{◌≡◌, refl, sym, ap, subst, ◌∙◌}
-use Prim.Native.Nat.{ℕ, zero, suc, ◌+◌, ◌/◌, ◌%◌, ◌≤◌, ◌<◌}
+use Prim.Native.Nat.{ℕ, zero, suc, ◌+◌, ◌-◌, ◌/◌, ◌%◌, ◌≤◌, ◌<◌}
 use native.Mathlib.Omega.{arith}
 use native.Mathlib.Decide.{dec_le, dec_lt, ℕ_discrete}
 use mathlib.Core.Option.{Option, none, some}
 use mathlib.Core.List.{List, ◌∷◌}
-use lib.ListN.{length, get_or}
+use lib.ListN.{length, get_or, take, drop}
 use Rattle.exact.specs.Got.{Got, got, stop, follow}
 use Rattle.exact.specs.Exact.{Parser}
 use Rattle.exact.specs.Basic.{byte, pure}
@@ -25,7 +25,7 @@ use Rattle.format.specs.Tables.{Function}
 use Rattle.format.specs.Sections.{Section}
 use Rattle.format.specs.Functions.{Located, apart}
 use Rattle.format.specs.Explains.{Container}
-use Rattle.format.specs.Read.{Read, accepted, refused, at_stage}
+use Rattle.format.specs.Read.{Read, accepted, refused, at_stage, map_read}
 use Rattle.format.specs.DecodeContainer.{header_at, sections_at, last_with, place_of, in_section}
 use Rattle.format.specs.DecodeTables.{strings_at, constants_at}
 use Rattle.format.specs.DecodeTypes.{type_entry_at, types_at}
@@ -35,9 +35,11 @@ use Rattle.format.proofs.Decoded.{accepted-value, refused-not-accepted, stage-in
 use Rattle.format.proofs.LawsLast.{Counts, none_counts, last_counts, last-with}
 use Rattle.format.proofs.LawsStands.{stands-bytes}
 use Rattle.format.proofs.RowPlaced.{section-placed}
-use Rattle.container.specs.Container.{held_place, nowhere, held_places, Opened, opened}
+use Rattle.container.specs.declared.sections.Container.{Container as Held}
+use Rattle.container.specs.Container.{held_place, nowhere, held_places, Opened, opened, held_container}
+use Rattle.container.proofs.LawsOpened.{held-passed}
 use Rattle.container.proofs.LawsPlaces.{place_in, held-length, held_at, place-past}
-use Rattle.entries.proofs.LawsEntries.{table-values}
+use Rattle.entries.proofs.LawsEntries.{table-values, part_length}
 use Rattle.payloads.specs.Tables.{filling}
 use Rattle.payloads.specs.Rows.{bodied, function_rows}
 use Rattle.payloads.specs.TypeRows.{type_rows}
@@ -243,3 +245,19 @@ count-values o l (stop c k) = refl
 pub functions-moved : (o : ℕ) (l : List ℕ) → function_rows (functions_at 0 l 0) ≡ function_rows (functions_at o l 0)
 unfolding functions_at sequence.mapped sequence.bind pure upto counted
 functions-moved o l = count-values o l (varint_at l 0)
+
+-- A file whose header and walk gave k is within the limit, and each place lies in it.
+module _ (file : List ℕ) (k : Held) (read : accepted k ≡ map_read held_container (opened file)) where
+  pub source-short : length file ≤ most_bytes
+  source-short =
+      let (x, e, q) = held-passed (opened file) k read in
+      (opened-container file x e).0
+
+  pub source-inside : (id : ℕ) → Inside file (get_or k.sections.places id nowhere)
+  source-inside id =
+      let (x, e, q) = held-passed (opened file) k read in
+      subst (λ k. Inside file (get_or k.sections.places id nowhere)) (sym q) (held-inside file x e id)
+
+-- So a part of it ends within the limit.
+pub part-near : (l : List ℕ) (a n : ℕ) → a + n ≤ length l → length l ≤ most_bytes → a + length (take (a + n - a) (drop a l)) ≤ most_bytes
+part-near l a n h m = omega (arith, part_length a (a + n) l (omega arith) h)

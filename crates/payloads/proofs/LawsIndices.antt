@@ -1,5 +1,6 @@
 -- Lists of varints that are copied some numbers at a time: some and then the rest are all of them; a varint of one byte
 -- or two; and blocks of them. Assumes nothing.
+use Rattle.std.specs.Prelude.{Result, Ok, Err}
 use mathlib.Core.Path.{◌≡◌, refl, sym, ap, ◌∙◌, subst}
 use Prim.Native.Nat.{ℕ, zero, suc, ◌+◌, ◌-◌, ◌*◌, ◌/◌, ◌%◌, ◌≤◌, ◌<◌}
 use native.Mathlib.Decide.{ℕ_discrete}
@@ -13,6 +14,7 @@ use Rattle.exact.specs.Basic.{pure}
 use Rattle.exact.specs.Sequence.{bind, mapped}
 use Rattle.exact.specs.Repeat.{times}
 use Rattle.exact.specs.Fixed.{bytes_of}
+use Rattle.exact.proofs.LawsExact.{stop-not-got}
 use Rattle.exact.proofs.LawsFixed.{length-bytes_of}
 use Rattle.encoding.proofs.LawsOut.{put_full}
 use Rattle.reading.specs.Numbers.{varint_at, Word, Begins}
@@ -22,12 +24,10 @@ use Rattle.sheet.specs.Store.{put_word}
 use Rattle.reading.specs.declared.Refused.{Refused}
 use Rattle.payloads.specs.declared.fields.Number.{Number}
 use Rattle.payloads.specs.declared.fields.Number.TheVariants.{Varint}
-use Rattle.payloads.specs.declared.fields.SpotRead.{SpotRead}
 use Rattle.payloads.specs.declared.fields.Spot.{Spot}
-use Rattle.payloads.specs.declared.fields.SpotRead.TheVariants as spot
-use Rattle.payloads.specs.Fields.{number_at, several, numbers, value_of, Put, Copied, Within, Grows}
+use Rattle.payloads.specs.Fields.{number_at, several, numbers, Put, Step}
 use Rattle.payloads.specs.Indices.{tops, Spans, Even}
-use Rattle.payloads.proofs.LawsFields.{then, copied-then, copied-stop, copied_at, numbers-done, numbers_more, within-got}
+use Rattle.payloads.proofs.LawsFields.{then, step-then, step-stop, step-same, numbers-done, numbers_more}
 
 -- a values and then b more are a + b.
 module _ {A : Type 0} (p : Parser A) (l : List ℕ) where
@@ -84,54 +84,42 @@ module _ (k : Number) (l : List ℕ) where
   rest-same m c a b i =
       rest-first m c a b i (times a (number_at k) l i) refl ∙ ap (λ g. follow g (λ vs k. got (m, vs) k)) (sym (times-add (number_at k) l a b i))
 
-  -- Whatever copying the rest leaves, copying them all leaves it.
-  numbers-rest : (m n left i w : ℕ) (s s₁ s' : List ℕ) (r₁ r : SpotRead) → n ≤ left → Put (numbers n n k l i) w s s₁ r₁ →
-      Copied (numbers m (left - n) k) l r₁ s₁ s' r → Put (numbers m left k l i) w s s' r
-  unfolding Copied
-  numbers-rest m n left i w s s₁ s' r₁ r h x y =
-      let e : n + (left - n) ≡ left = omega arith in
-      let t : Spot = record { pos = i; word = w; value = 0 } in
-      subst (λ n. Put (numbers m n k l i) w s s' r) e
-      (subst (λ g. Put g w s s' r) (rest-same m n n (left - n) i)
-      (copied-then (numbers n n k) (λ _. numbers m (left - n) k) l s s₁ s' r (spot.Got t) r₁ x y))
-
 -- How many numbers were copied is the answer's value.
-value-told : (n w : ℕ) (s s' : List ℕ) (t : Spot) (g : Got (List ℕ)) → Put (follow g (λ vs j. got (n, vs) j)) w s s' (spot.Got t) → t.value ≡ n
+value-told : (n w : ℕ) (s s' : List ℕ) (t : Spot) (g : Got (List ℕ)) → Put (follow g (λ vs j. got (n, vs) j)) w s s' (Ok t) → t.value ≡ n
 unfolding Put follow
 value-told n w s s' t (got vs j) x =
     let e : t ≡ record { pos = j; word = w + length vs; value = n } = cc x.0 in
     ap (λ t. t.value) e
-value-told n w s s' t (stop c j) x = let z : ◌≡◌ {A = ℕ} 0 1 = cc in let y : ⊥ = omega arith in absurd y
+value-told n w s s' t (stop c j) x = absurd (stop-not-got (sym x))
 
-module _ (k : Number) (l : List ℕ) (n i w : ℕ) (s s₁ : List ℕ) {r₁ : SpotRead} (x : Put (numbers n n k l i) w s s₁ r₁) where
-  pub some-value : (t : Spot) → r₁ ≡ spot.Got t → t.value ≡ n
+module _ (k : Number) {l s s₁ : List ℕ} {n : ℕ} {t : Spot} where
+  pub some-value : {u : Spot} → Step 0 (numbers n n k) l t s s₁ (Ok u) → u.value ≡ n
   unfolding numbers several mapped bind pure
-  some-value t e = value-told n w s s₁ t (times n (number_at k) l i) (subst (λ r. Put (numbers n n k l i) w s s₁ r) e x)
+  some-value {u} x = value-told n t.word s s₁ u (times n (number_at k) l t.pos) x.put
 
   -- The rest are copied behind them ..
-  pub some-got : (m left : ℕ) (s' : List ℕ) (t : Spot) (r : SpotRead) → n ≤ left → r₁ ≡ spot.Got t →
-      Put (numbers m (left - t.value) k l t.pos) t.word s₁ s' r → Put (numbers m left k l i) w s s' r
-  unfolding Copied
-  some-got m left s' t r h e y =
-      let z : Copied (numbers m (left - n) k) l (spot.Got t) s₁ s' r =
-      subst (λ n. Put (numbers m (left - n) k l t.pos) t.word s₁ s' r) (some-value t e) y in
-      numbers-rest k l m n left i w s s₁ s' r₁ r h x (subst (λ q. Copied (numbers m (left - n) k) l q s₁ s' r) (sym e) z)
+  pub some-got : {u : Spot} (m left : ℕ) (s' : List ℕ) (r : Result Spot Refused) → Step 0 (numbers n n k) l t s s₁ (Ok u) → n ≤ left →
+      Step 0 (numbers m (left - u.value) k) l u s₁ s' r → Step 0 (numbers m left k) l t s s' r
+  some-got {u} m left s' r x h y =
+      let e : n + (left - n) ≡ left = omega arith in
+      let z : Step 0 (numbers m (left - n) k) l u s₁ s' r = subst (λ v. Step 0 (numbers m (left - v) k) l u s₁ s' r) (some-value x) y in
+      subst (λ n. Step 0 (numbers m n k) l t s s' r) e
+      (step-same _ _ (rest-same k l m n n (left - n) t.pos) (step-then (numbers n n k) (λ _. numbers m (left - n) k) x z))
 
   -- .. or one of them was refused.
-  pub some-stop : (m left : ℕ) (s' : List ℕ) (y : Refused) → n ≤ left → r₁ ≡ spot.Stop y → Put (numbers m left k l i) w s s' (spot.Stop y)
-  some-stop m left s' y h e =
-      numbers-rest k l m n left i w s s₁ s' r₁ (spot.Stop y) h x (copied-stop (numbers m (left - n) k) l s₁ s' e)
+  pub some-stop : {y : Refused} (m left : ℕ) (s' : List ℕ) → Step 0 (numbers n n k) l t s s₁ (Err y) → n ≤ left →
+      Step 0 (numbers m left k) l t s s' (Err y)
+  some-stop {y} m left s' x h =
+      let e : n + (left - n) ≡ left = omega arith in
+      subst (λ n. Step 0 (numbers m n k) l t s s' (Err y)) e
+      (step-same _ _ (rest-same k l m n n (left - n) t.pos) (step-stop (numbers n n k) (λ _. numbers m (left - n) k) x))
 
-  -- They were all of them.
-  pub some-all : (m : ℕ) (t : Spot) → r₁ ≡ spot.Got t → Put (numbers m n k l i) w s s₁ (spot.Got record { pos = t.pos; word = t.word; value = m })
-  some-all m t e =
-      some-got m n s₁ t (spot.Got record { pos = t.pos; word = t.word; value = m }) (omega arith) e
-      (numbers-done m k l t.pos t.word s₁ s₁ (n - t.value) (omega (arith, some-value t e)) refl)
-
--- A varint is a number of its kind.
-pub varint-number : (l : List ℕ) (i : ℕ) {g : Got ℕ} → varint_at l i ≡ g → number_at Varint l i ≡ g
-unfolding number_at
-varint-number l i e = e
+-- They were all of them.
+pub some-all : (k : Number) (n m : ℕ) {l s s₁ : List ℕ} {t u : Spot} → Step 0 (numbers n n k) l t s s₁ (Ok u) →
+    Step 0 (numbers m n k) l t s s₁ (Ok record { pos = u.pos; word = u.word; value = m })
+some-all k n m {l} {s₁ = s₁} {u = u} x =
+    some-got k m n s₁ (Ok record { pos = u.pos; word = u.word; value = m }) x (omega arith)
+    (numbers-done m k l s₁ u x.within.0 (n - u.value) s₁ _ (omega (arith, some-value k x)) refl refl)
 
 -- A varint of one byte is that byte ..
 module _ (width : ℕ) (l : List ℕ) (i : ℕ) (x : Spans width l i) where
@@ -162,11 +150,6 @@ module _ (width : ℕ) (l : List ℕ) (i : ℕ) (x : Spans width l i) where
   spans-some : (v : ℕ) × (varint_at l i ≡ got v (i + width))
   spans-some = elim (ℕ_discrete width 1) [ yes e ↦ (_, spans-one e) | no n ↦ (_, spans-two n) ]
 
--- A step, and the others, are all steps.
-pub steps-end : (step n i : ℕ) → 0 < n → i + step + (n - 1) * step ≡ i + n * step
-steps-end step n i some =
-    let e : n - 1 + 1 ≡ n = omega arith in omega (arith, add-mul (n - 1) 1 step, ap (λ n. n * step) e)
-
 -- The first of some varints of one width, and those behind it.
 module _ (width n : ℕ) (l : List ℕ) (i : ℕ) (some : 0 < n) (x : Even width n l i) where
   pub even-first : Spans width l i
@@ -182,30 +165,45 @@ word_none : (s : List ℕ) (i v : ℕ) → length s / 8 ≤ i → s ≡ put_word
 unfolding put_word
 word_none s i v h = sym (put_full s (i * 8) (bytes_of 8 v) (omega (arith, length-bytes_of 8 v)))
 
--- An answer by its parts.
-spot-same : (t : Spot) (i w v : ℕ) → t.pos ≡ i → t.word ≡ w → t.value ≡ v → record { pos = i; word = w; value = v } ≡ t
-spot-same t i w v a b c = rw (sym a, sym b, sym c)
+-- The spot behind n varints of one width.
+abbrev pub behind : ℕ → Spot → ℕ → Spot
+behind width t n = record { pos = t.pos + n * width; word = t.word + n; value = t.value }
 
--- No varint is left.
-pub even-done : (width m n : ℕ) (l : List ℕ) (i w : ℕ) (s s' : List ℕ) (t : Spot) → n ≤ 0 → s' ≡ s → t.pos ≡ i + n * width →
-    t.word ≡ w + n → t.value ≡ m → Put (numbers m n Varint l i) w s s' (spot.Got t)
-even-done width m n l i w s s' t h e a b c =
-    let z : n * width ≡ 0 * width = ap (λ n. n * width) (omega arith) in
-    subst (λ t. Put (numbers m n Varint l i) w s s' (spot.Got t)) (spot-same t i w m (omega arith) (omega arith) c)
-    (numbers-done m Varint l i w s s' n h e)
+-- One more of them was put ..
+module _ (width m : ℕ) (l : List ℕ) (t : Spot) where
+  pub even-more : (n i b v : ℕ) (s s₁ s' : List ℕ) (r : Result Spot Refused) → n ≡ suc b → varint_at l (t.pos + i * width) ≡ got v (t.pos + i * width + width) →
+      s₁ ≡ put_word s (t.word + i) v → Step 0 (numbers m b Varint) l (behind width t (i + 1)) s₁ s' r →
+      Step 0 (numbers m n Varint) l (behind width t i) s s' r
+  unfolding number_at
+  even-more n i b v s s₁ s' r more e h x =
+      let p : t.pos + (i + 1) * width ≡ t.pos + i * width + width = omega (arith, add-mul i 1 width) in
+      let q : t.word + (i + 1) ≡ t.word + i + 1 = omega arith in
+      numbers_more m Varint l s s₁ s' r n b v _ t.value (behind width t i) (behind width t (i + 1)) more (sym e) h (rw (p, q) refl) x
+
+  -- .. or none is left.
+  pub even-done : (n i k : ℕ) (s s' : List ℕ) → n ≤ 0 → i ≡ k → s' ≡ s → t.pos + k * width ≤ length l →
+      Step 0 (numbers m n Varint) l (behind width t i) s s' (Ok record { pos = t.pos + k * width; word = t.word + k; value = m })
+  even-done n i k s s' h e q low =
+      rw (← e) (numbers-done m Varint l s (behind width t i) (rw (← e) at low) n s' _ h q refl)
 
 -- Varints of one width that the sheet has no words for leave it as it was.
-pub even-measured : (width m n : ℕ) (l : List ℕ) (i w : ℕ) (s s' : List ℕ) (t : Spot) → Even width n l i → length s / 8 ≤ w → s' ≡ s →
-    t.pos ≡ i + n * width → t.word ≡ w + n → t.value ≡ m → Put (numbers m n Varint l i) w s s' (spot.Got t)
-even-measured width m zero l i w s s' t x h e a b c = even-done width m zero l i w s s' t (omega arith) e a b c
-even-measured width m (suc n) l i w s s' t x h e a b c =
-    let k : suc n - 1 ≡ n = omega arith in
+pub even-measured : (width m n : ℕ) (l s : List ℕ) (t : Spot) → Even width n l t.pos → length s / 8 ≤ t.word → t.pos + n * width ≤ length l →
+    Step 0 (numbers m n Varint) l t s s (Ok record { pos = t.pos + n * width; word = t.word + n; value = m })
+unfolding number_at
+even-measured width m zero l s t x h low =
+    let z : t.pos + zero * width ≡ t.pos = omega arith in
+    let y : t.word + zero ≡ t.word = omega arith in
+    numbers-done m Varint l s t (omega arith) zero s _ (omega arith) refl (rw (z, y) refl)
+even-measured width m (suc n) l s t x h low =
     let some : 0 < suc n = omega arith in
-    let (v, f) = spans-some width l i (even-first width (suc n) l i some x) in
-    let y : Even width n l (i + width) = subst (λ n. Even width n l (i + width)) k (even-next width (suc n) l i some x) in
-    let p : t.pos ≡ i + width + n * width = omega (arith, suc-mul n width) in
-    let r = even-measured width m n l (i + width) (w + 1) s s' t y (omega arith) e p (omega arith) c in
-    numbers_more m Varint l i w s s' (suc n) v (i + width) s (spot.Got t) some (varint-number l i f) (word_none s w v h) (rw k r)
+    let k : suc n - 1 ≡ n = omega arith in
+    let (v, f) = spans-some width l t.pos (even-first width (suc n) l t.pos some x) in
+    let u : Spot = record { pos = t.pos + width; word = t.word + 1; value = 0 } in
+    let y : Even width n l u.pos = subst (λ n. Even width n l u.pos) k (even-next width (suc n) l t.pos some x) in
+    let p : u.pos + n * width ≡ t.pos + suc n * width = omega (arith, suc-mul n width) in
+    let q : u.word + n ≡ t.word + suc n = omega arith in
+    let r = rw (p, q) at (even-measured width m n l s u y (omega arith) (omega (arith, p))) in
+    numbers_more m Varint l s s s _ (suc n) n v _ 0 t u refl (sym f) (word_none s t.word v h) refl r
 
 -- A varint and others of its width behind it.
 even-cons : (width n : ℕ) (l : List ℕ) (i : ℕ) → Spans width l i → Even width n l (i + width) → Even width (suc n) l i
@@ -233,15 +231,15 @@ even-ones l (suc n) i h e =
     } in
     even-cons 1 n l i x (even-ones l n (i + 1) (omega arith) (omega arith))
 
--- No byte more, and one more.
-module _ (step n : ℕ) (l : List ℕ) (i : ℕ) where
-  pub tops-none : n ≤ 0 → tops step n l i ≡ 0
+-- One byte more, and none.
+module _ (step : ℕ) (l : List ℕ) (i : ℕ) where
+  pub tops_next : (n b : ℕ) → n ≡ suc b → tops step n l i ≡ get_or l i 0 / 128 + tops step b l (i + step)
   unfolding tops
-  tops-none h = let e : n ≡ 0 = omega arith in rw e
+  tops_next n b h = rw h
 
-  pub tops_next : 0 < n → tops step n l i ≡ get_or l i 0 / 128 + tops step (n - 1) l (i + step)
+  pub tops-none : (n : ℕ) → n ≤ 0 → tops step n l i ≡ 0
   unfolding tops
-  tops_next h = let e : n ≡ suc (n - 1) = omega arith in ap (λ n. tops step n l i) e
+  tops-none n h = let e : n ≡ 0 = omega arith in rw e
 
 -- The next step of a sum that starts one byte further.
 tops-past : (l : List ℕ) (n i : ℕ) → tops 2 n l (i + 1 + 2) ≡ tops 2 n l (i + 2 + 1)
@@ -286,39 +284,3 @@ module _ (l : List ℕ) (bytes : (k : ℕ) → get_or l k 0 < 256) where
   -- No second one has where as many have as there are pairs.
   pub even-pairs : (n i : ℕ) → i + 2 * n ≤ length l → tops 1 (n + n) l i ≡ n → tops 2 n l i ≡ n → Even 2 n l i
   even-pairs n i h a b = even-twos n i h b (omega (arith, tops-halves l n i))
-
--- As many words as bytes at most, behind as many.
-within-behind : (l : List ℕ) (i w j u : ℕ) (r : SpotRead) → u + i ≤ w + j → Within l j u 0 r → Within l i w 0 r
-unfolding Within
-within-behind l i w j u (spot.Got t) h x = (x.0, omega (arith, x.1))
-within-behind l i w j u (spot.Stop y) h x = x
-
-pub within_more : (l : List ℕ) (i w j u : ℕ) {r q : SpotRead} → u + i ≤ w + j → r ≡ q → Within l j u 0 r → Within l i w 0 q
-within_more l i w j u {q = q} h e x = within-behind l i w j u q h (subst (Within l j u 0) e x)
-
--- Where the numbers of a block end.
-pub within-at : (l : List ℕ) (i w n : ℕ) {r : SpotRead} (t : Spot) → r ≡ spot.Got t → t.pos ≤ length l → t.word + i ≤ w + t.pos + n →
-    Within l i w n r
-within-at l i w n t e a b = subst (Within l i w n) (sym e) (within-got l i w n t a b)
-
--- What an answer within says.
-pub within-told : (l : List ℕ) (i w n : ℕ) {r : SpotRead} (t : Spot) → r ≡ spot.Got t → Within l i w n r →
-    (t.pos ≤ length l) × (t.word + i ≤ w + t.pos + n)
-unfolding Within
-within-told l i w n t e x = subst (Within l i w n) e x
-
--- As many numbers as the one before them says ..
-pub copied-count : (k : Number) (l s s' : List ℕ) {from : SpotRead} (at : Spot) (r : SpotRead) → from ≡ spot.Got at →
-    Put (numbers at.value at.value k l at.pos) at.word s s' r →
-    Copied (numbers (value_of from) (value_of from) k) l from s s' r
-unfolding value_of
-copied-count k l s s' at r e x =
-    subst (λ f. Copied (numbers (value_of f) (value_of f) k) l f s s' r) (sym e) (copied_at _ l at s s' r x)
-
--- .. put no more words than they have bytes.
-pub grows-count : (l : List ℕ) {from : SpotRead} (at : Spot) (r : SpotRead) → from ≡ spot.Got at → Within l at.pos at.word 0 r →
-    Grows l from r
-unfolding Within Grows
-grows-count l at (spot.Got t) e y i w n x =
-    let z : Within l i w n (spot.Got at) = subst (Within l i w n) e x in (y.0, omega (arith, y.1, z.1))
-grows-count l at (spot.Stop q) e y i w n x = y

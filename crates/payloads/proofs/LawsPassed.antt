@@ -9,6 +9,8 @@ use Rattle.exact.specs.Got.{Got, got, stop, follow}
 use Rattle.exact.specs.Tiling.{join}
 use Rattle.exact.specs.Entries as table
 use Rattle.enums.specs.Container.{string_id, func_id, debug_id, constant_id, type_id, global_id, producer_id}
+use Rattle.enums.specs.Numbered.{stage_number}
+use Rattle.enums.specs.declared.Section.TheVariants as section
 use Rattle.enums.specs.Refusals as refusals
 use Rattle.enums.specs.declared.VersionClass.{VersionClass}
 use Rattle.format.specs.Tables.{TypeRow, Global, Function, Tables}
@@ -25,8 +27,8 @@ use Rattle.format.specs.DecodeDebug.{debug_at}
 use Rattle.format.specs.Decode.{gathered, payloads}
 use Rattle.format.specs.Sheet.{type_words, global_words, producer_word}
 use Rattle.format.proofs.Decoded.{accepted-value, stage-inv}
-use Rattle.container.specs.declared.sections.SectionPlace.{SectionPlace}
-use Rattle.container.specs.Container.{held_places, Opened, opened}
+use Rattle.container.specs.declared.sections.Container.{Container}
+use Rattle.container.specs.Container.{held_container, Opened, opened}
 use Rattle.payloads.specs.Fill.{Rows}
 use Rattle.payloads.specs.Tables.{run_rows, filling}
 use Rattle.payloads.specs.Rows.{global_rows, bodied, function_rows}
@@ -36,10 +38,10 @@ use Rattle.payloads.specs.declared.pass.Table.TheVariants.{Strings, Types, Const
 use Rattle.payloads.specs.Pass.{
   no_rows,
   table_in,
+  section_of,
   stage_of,
   in_place,
   Begun,
-  pass_of,
   value_of,
   with_table,
   with_producer,
@@ -120,8 +122,8 @@ module _ (file : List ℕ) (x : Opened) (e : opened file ≡ accepted x) where
   abbrev c : VersionClass
   c = class x.version
 
-  abbrev places : List SectionPlace
-  places = held_places x.sections
+  abbrev held : Container
+  held = held_container x
 
   -- What the model reads of each section.
   abbrev strings_in : Got (table.Rows (List ℕ))
@@ -145,68 +147,68 @@ module _ (file : List ℕ) (x : Opened) (e : opened file ≡ accepted x) where
   abbrev debug_in : Got DebugTables
   debug_in = in_section (last_with debug_id x.sections) (λ o. debug_at) no_debug
 
-  -- The table at the place of an id.
-  abbrev table_at : Table → ℕ → Got Rows
-  table_at t id = in_place file (place_at file c places id) (table_in t c) no_rows
+  -- The table at the place of its section.
+  abbrev table_at : Table → Got Rows
+  table_at t = in_place file (place_at held (section_of t)) (table_in t c) no_rows
 
-  strings-held : table_at Strings string_id ≡ mapped (λ v. run_rows v.values) strings_in
+  strings-held : table_at Strings ≡ mapped (λ v. run_rows v.values) strings_in
   unfolding table_in filling
   strings-held = held-read file x e (λ v. run_rows v.values) strings_at (table_in Strings c) strings.no_rows strings-moved string_id (omega arith)
 
-  types-held : table_at Types type_id ≡ mapped typed types_in
+  types-held : table_at Types ≡ mapped typed types_in
   unfolding table_in type_rows
   types-held = held-read file x e typed (types_at c) (table_in Types c) [] (types-moved c) type_id (omega arith)
 
-  constants-held : table_at Constants constant_id ≡ mapped (λ v. run_rows v.values) constants_in
+  constants-held : table_at Constants ≡ mapped (λ v. run_rows v.values) constants_in
   unfolding table_in filling
   constants-held =
       held-read file x e (λ v. run_rows v.values) constants_at (table_in Constants c) strings.no_rows constants-moved constant_id (omega arith)
 
-  globals-held : table_at Globals global_id ≡ mapped globals_of globals_in
+  globals-held : table_at Globals ≡ mapped globals_of globals_in
   unfolding table_in global_rows globals_at
   globals-held = held-read file x e globals_of (globals_at c) (table_in Globals c) [] (λ o l. refl) global_id (omega arith)
 
-  functions-held : table_at Functions func_id ≡ mapped (λ v. bodied v.values) functions_in
+  functions-held : table_at Functions ≡ mapped (λ v. bodied v.values) functions_in
   unfolding table_in function_rows
   functions-held =
       held-read file x e (λ v. bodied v.values) functions_at (table_in Functions c) strings.no_rows functions-moved func_id (omega arith)
 
   producer-held : (s : table.Rows (List ℕ)) →
-      in_place file (place_at file c places producer_id) (λ l. producer_at (length s.values) l 0) none ≡ mapped (λ v. v) (producer_in s)
+      in_place file (place_at held section.Producer) (λ l. producer_at (length s.values) l 0) none ≡ mapped (λ v. v) (producer_in s)
   producer-held s =
       held-read file x e (λ v. v) (λ o. producer_at (length s.values)) (λ l. producer_at (length s.values) l 0) none
       (λ o l. mapped-same (producer_at (length s.values) l 0)) producer_id (omega arith)
 
-  debug-held : in_place file (place_at file c places debug_id) (λ l. debug_at l 0) no_debug ≡ mapped (λ v. v) debug_in
+  debug-held : in_place file (place_at held section.Debug) (λ l. debug_at l 0) no_debug ≡ mapped (λ v. v) debug_in
   debug-held = held-read file x e (λ v. v) (λ o. debug_at) (λ l. debug_at l 0) no_debug (λ o l. mapped-same (debug_at l 0)) debug_id (omega arith)
 
   -- What the pass has still to read, from each stage on ..
   abbrev from_debug : Begun → Read Begun
-  from_debug = with_debug (in_place file (place_at file c places debug_id) (λ l. debug_at l 0) no_debug)
+  from_debug = with_debug (in_place file (place_at held section.Debug) (λ l. debug_at l 0) no_debug)
 
   abbrev from_functions : Begun → Read Begun
-  from_functions z = and_then (table_step file c places Functions func_id z) from_debug
+  from_functions z = and_then (table_step file held Functions z) from_debug
 
   abbrev from_globals : Begun → Read Begun
-  from_globals z = and_then (table_step file c places Globals global_id z) from_functions
+  from_globals z = and_then (table_step file held Globals z) from_functions
 
   abbrev from_constants : Begun → Read Begun
-  from_constants z = and_then (table_step file c places Constants constant_id z) from_globals
+  from_constants z = and_then (table_step file held Constants z) from_globals
 
   abbrev from_types : Begun → Read Begun
-  from_types z = and_then (table_step file c places Types type_id z) from_constants
+  from_types z = and_then (table_step file held Types z) from_constants
 
   abbrev from_producer : Begun → Read Begun
-  from_producer z = and_then (with_producer file (place_at file c places producer_id) z) from_types
+  from_producer z = and_then (with_producer file (place_at held section.Producer) z) from_types
 
-  passed-steps : passed file c places ≡ and_then (table_step file c places Strings string_id begun) from_producer
+  passed-steps : passed file held ≡ and_then (table_step file held Strings begun) from_producer
   unfolding passed named
   passed-steps =
-      then-then _ (table_step file c places Functions func_id) from_debug ∙
-      then-then _ (table_step file c places Globals global_id) from_functions ∙
-      then-then _ (table_step file c places Constants constant_id) from_globals ∙
-      then-then _ (table_step file c places Types type_id) from_constants ∙
-      then-then _ (with_producer file (place_at file c places producer_id)) from_types
+      then-then _ (table_step file held Functions) from_debug ∙
+      then-then _ (table_step file held Globals) from_functions ∙
+      then-then _ (table_step file held Constants) from_globals ∙
+      then-then _ (table_step file held Types) from_constants ∙
+      then-then _ (with_producer file (place_at held section.Producer)) from_types
 
   -- .. and what the model has, behind strings s, producer p, types t, constants k, globals g and functions f.
   abbrev model_debug : table.Rows (List ℕ) → Option ℕ → List TypeRow → table.Rows (List ℕ) → List Global → table.Rows Function → Read Placed
@@ -249,35 +251,31 @@ module _ (file : List ℕ) (x : Opened) (e : opened file ≡ accepted x) where
   functions-passed : (n : ℕ) (s : table.Rows (List ℕ)) (p : Option ℕ) (t : List TypeRow) (k : table.Rows (List ℕ)) (g : List Global) →
       from_functions (record { tables = run_rows s.values ∷ typed t ∷ run_rows k.values ∷ globals_of g ∷ []; value = n }) ≡
       map_read all_of (model_functions s p t k g)
-  unfolding stage_of
   functions-passed n s p t k g =
       step-table refusals.at_func (model_debug s p t k g) (λ v. bodied v.values)
       (record { tables = run_rows s.values ∷ typed t ∷ run_rows k.values ∷ globals_of g ∷ []; value = n }) from_debug
-      (λ f. debug-passed _ s p t k g f) functions_in (table_at Functions func_id) functions-held
+      (λ f. debug-passed _ s p t k g f) functions_in (table_at Functions) functions-held
 
   globals-passed : (n : ℕ) (s : table.Rows (List ℕ)) (p : Option ℕ) (t : List TypeRow) (k : table.Rows (List ℕ)) →
       from_globals (record { tables = run_rows s.values ∷ typed t ∷ run_rows k.values ∷ []; value = n }) ≡
       map_read all_of (model_globals s p t k)
-  unfolding stage_of
   globals-passed n s p t k =
       step-table refusals.at_global (model_functions s p t k) globals_of
       (record { tables = run_rows s.values ∷ typed t ∷ run_rows k.values ∷ []; value = n }) from_functions
-      (λ g. functions-passed _ s p t k g) globals_in (table_at Globals global_id) globals-held
+      (λ g. functions-passed _ s p t k g) globals_in (table_at Globals) globals-held
 
   constants-passed : (n : ℕ) (s : table.Rows (List ℕ)) (p : Option ℕ) (t : List TypeRow) →
       from_constants (record { tables = run_rows s.values ∷ typed t ∷ []; value = n }) ≡ map_read all_of (model_constants s p t)
-  unfolding stage_of
   constants-passed n s p t =
       step-table refusals.at_constant (model_globals s p t) (λ v. run_rows v.values)
       (record { tables = run_rows s.values ∷ typed t ∷ []; value = n }) from_globals
-      (λ k. globals-passed _ s p t k) constants_in (table_at Constants constant_id) constants-held
+      (λ k. globals-passed _ s p t k) constants_in (table_at Constants) constants-held
 
   types-passed : (n : ℕ) (s : table.Rows (List ℕ)) (p : Option ℕ) →
       from_types (record { tables = run_rows s.values ∷ []; value = n }) ≡ map_read all_of (model_types s p)
-  unfolding stage_of
   types-passed n s p =
       step-table refusals.at_type (model_constants s p) typed (record { tables = run_rows s.values ∷ []; value = n })
-      from_constants (λ t. constants-passed _ s p t) types_in (table_at Types type_id) types-held
+      from_constants (λ t. constants-passed _ s p t) types_in (table_at Types) types-held
 
   producer-passed : (s : table.Rows (List ℕ)) →
       from_producer (record { tables = run_rows s.values ∷ []; value = length s.values }) ≡ map_read all_of (model_producer s)
@@ -289,12 +287,12 @@ module _ (file : List ℕ) (x : Opened) (e : opened file ≡ accepted x) where
       found-producer (model_types s) (run_rows s.values ∷ []) from_types (producer_in s) (λ p. types-passed _ s p)
 
   -- The pass reads what the model reads: its seven tables, or its refusal.
-  pub passed-payloads : passed file c places ≡ map_read all_of (payloads x.version x.sections)
-  unfolding payloads stage_of
+  pub passed-payloads : passed file held ≡ map_read all_of (payloads x.version x.sections)
+  unfolding payloads
   passed-payloads =
       passed-steps ∙
       step-table refusals.at_string model_producer (λ v. run_rows v.values) begun from_producer producer-passed strings_in
-      (table_at Strings string_id) strings-held
+      (table_at Strings) strings-held
 
   -- The producer that the model names is the one that was read.
   kept-producer : (s : table.Rows (List ℕ)) (p : Option ℕ) (y : Placed) → model_types s p ≡ accepted y → p ≡ y.tables.producer
@@ -308,21 +306,21 @@ module _ (file : List ℕ) (x : Opened) (e : opened file ≡ accepted x) where
       ap (λ q. q.tables.producer) (accepted-value {v = z} e7)
 
   named-is : (s : table.Rows (List ℕ)) (i : ℕ) (p : Option ℕ) (j : ℕ) → strings_in ≡ got s i → producer_in s ≡ got p j →
-      named file c places ≡ accepted (record { tables = run_rows s.values ∷ []; value = producer_word p })
+      named file held ≡ accepted (record { tables = run_rows s.values ∷ []; value = producer_word p })
   unfolding named with_table with_producer and_then at_stage follow
   named-is s i p j a b =
-      ap (λ z. and_then (with_table (stage_of Strings) z begun) (with_producer file (place_at file c places producer_id)))
+      ap (λ z. and_then (with_table (stage_number (stage_of Strings)) z begun) (with_producer file (place_at held section.Producer)))
       (strings-held ∙ ap (mapped (λ v. run_rows v.values)) a) ∙
       ap (λ z. at_stage refusals.at_producer z (λ q _. accepted (record { tables = run_rows s.values ∷ []; value = producer_word q })))
       (producer-held s ∙ ap (mapped (λ v. v)) b)
 
   pub named-producer : (y : Placed) → payloads x.version x.sections ≡ accepted y →
-      value_of (pass_of (named file c places)) ≡ producer_word y.tables.producer
+      value_of (named file held) ≡ producer_word y.tables.producer
   unfolding payloads value_of
   named-producer y a =
       let (s, i1, h1, e1) = stage-inv _ _ _ y a in
       let (p, i2, h2, e2) = stage-inv _ _ _ y e1 in
-      ap (λ z. value_of (pass_of z)) (named-is s i1 p i2 h1 h2) ∙ ap producer_word (kept-producer s p y e2)
+      ap value_of (named-is s i1 p i2 h1 h2) ∙ ap producer_word (kept-producer s p y e2)
 
   -- The version that the model names is the file's.
   pub kept-version : (y : Placed) → payloads x.version x.sections ≡ accepted y → x.version ≡ y.tables.version

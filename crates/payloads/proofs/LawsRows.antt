@@ -1,10 +1,11 @@
 -- The rows of Global and Func in the stores, by the model. Assumes nothing.
-use mathlib.Core.Path.{◌≡◌, refl, sym, ap, ◌∙◌, subst}
+use mathlib.Core.Path.{◌≡◌, refl, sym, ap, ap₂, ◌∙◌, subst}
 use Prim.Native.Nat.{ℕ, suc, ◌+◌, ◌-◌, ◌≤◌, ◌<◌}
 use native.Mathlib.Nat.{add-zero}
 use native.Mathlib.Omega.{arith}
 use mathlib.Core.List.{List, [], ◌∷◌, ◌++◌, map, append-nil}
-use lib.ListN.{length}
+use lib.ListN.{length, get_or, drop, drop_of_length-le}
+use lib.Seq.{drop-cons}
 use Rattle.exact.specs.Got.{Got, got, stop, follow}
 use Rattle.exact.specs.Basic.{pure}
 use Rattle.exact.specs.Sequence as sequence
@@ -14,7 +15,6 @@ use Rattle.exact.specs.Tiling.{join}
 use Rattle.enums.specs.declared.VersionClass.{VersionClass}
 use Rattle.encoding.specs.Out.{put}
 use Rattle.sheet.specs.Store.{put_word, put_words, put_runs}
-use Rattle.sheet.proofs.LawsStore.{put_words-append}
 use Rattle.reading.specs.Numbers.{varint_at}
 use Rattle.format.specs.Tables.{Global, Function}
 use Rattle.format.specs.Functions.{Located, apart}
@@ -22,10 +22,10 @@ use Rattle.format.specs.DecodeRows.{global_at, globals_at, function_at, function
 use Rattle.format.specs.Sheet.{global_words, function_row_of, function_words}
 use Rattle.entries.specs.declared.rows.FuncRow.{FuncRow}
 use Rattle.entries.specs.Rows.{bytes_in, located_in}
-use Rattle.entries.proofs.LawsRows.{function-in}
 use Rattle.payloads.specs.Fill.{Rows, Fills}
 use Rattle.payloads.specs.declared.answers.Filled.{Filled}
-use Rattle.payloads.specs.declared.answers.TableRead.{TableRead}
+use Rattle.std.specs.Prelude.{Result}
+use Rattle.reading.specs.declared.Refused.{Refused}
 use Rattle.payloads.specs.Rows.{global_rows, row_of, bodied, located_rows, function_rows}
 use Rattle.payloads.proofs.LawsFields.{times-length}
 use Rattle.payloads.proofs.LawsFilling.{times_more, Filling, filling-more, filling-fills, fills-upto}
@@ -67,7 +67,7 @@ func-rows vs = rw (func-words vs, func-runs vs, func-count vs)
 
 -- One global more.
 pub globals-more : (c : VersionClass) (m : ℕ) (l : List ℕ) (i w b : ℕ) (s s' p : List ℕ) (n : ℕ) (v : Global) (j : ℕ) (s₁ : List ℕ)
-    (r : TableRead) → 0 < n → global_at c l i ≡ got v j → s₁ ≡ put_words s w (global_words v) →
+    (r : Result (ℕ × Filled) Refused) → 0 < n → global_at c l i ≡ got v j → s₁ ≡ put_words s w (global_words v) →
     Filling global_words no_runs m (times (n - 1) (global_at c) l j) (w + 6) b s₁ s' p p r →
     Filling global_words no_runs m (times n (global_at c) l i) w b s s' p p r
 unfolding put_runs global_words
@@ -76,22 +76,19 @@ globals-more c m l i w b s s' p n v j s₁ r h a e x =
     (subst (λ z. Filling global_words no_runs m (times (n - 1) (global_at c) l j) (w + 6) z s₁ s' p p r) (sym (add-zero b)) x)
 
 -- One function more.
-module _ (m : ℕ) (l : List ℕ) (i w b : ℕ) (s s' p p' : List ℕ) (n : ℕ) (f : FuncRow) (k : ℕ) (s₁ p₁ : List ℕ) (r : TableRead) where
+module _ (m : ℕ) (l : List ℕ) (i w b : ℕ) (s s' p p' : List ℕ) (n : ℕ) (f : FuncRow) (k : ℕ) (s₁ p₁ : List ℕ) (r : Result (ℕ × Filled) Refused) where
   pub funcs-more : i ≤ length l → 0 < n → function_at 0 l i ≡ got (located_in 0 l f k) k →
-      s₁ ≡ put_words s w (function_words (row_of f.head (k - f.body))) → p₁ ≡ put p b (bytes_in l f k) →
-      Filling func_words func_runs m (times (n - 1) (function_at 0) l k) (w + 5) (b + (k - f.body)) s₁ s' p₁ p' r →
+      s₁ ≡ put_words s w (function_words (row_of f.head (length (bytes_in l f k)))) → p₁ ≡ put p b (bytes_in l f k) →
+      Filling func_words func_runs m (times (n - 1) (function_at 0) l k) (w + 5) (b + length (bytes_in l f k)) s₁ s' p₁ p' r →
       Filling func_words func_runs m (times n (function_at 0) l i) w b s s' p p' r
   unfolding put_runs function_words function_row_of
   funcs-more g h a e d x =
-      let q = function-in l i (located_in 0 l f k) k g a in
-      let z : length (bytes_in l f k) ≡ k - f.body = omega (arith, q.1) in
-      let y : k - f.body ≡ length ((bytes_in l f k) ++ []) = sym z ∙ ap length (sym (append-nil (bytes_in l f k))) in
-      filling-more func_words func_runs m w b s s' p p' (located_in 0 l f k) s₁ p₁ r _ _ (times_more (function_at 0) l i n _ k h a)
-      (e ∙ ap (λ t. put_words s w (function_words (row_of f.head t))) (sym z)) d
+      let y : length (bytes_in l f k) ≡ length ((bytes_in l f k) ++ []) = ap length (sym (append-nil (bytes_in l f k))) in
+      filling-more func_words func_runs m w b s s' p p' (located_in 0 l f k) s₁ p₁ r _ _ (times_more (function_at 0) l i n _ k h a) e d
       (subst (λ t. Filling func_words func_runs m (times (n - 1) (function_at 0) l k) (w + 5) (b + t) s₁ s' p₁ p' r) y x)
 
 -- All rows are filled in.
-pub globals-filled : (c : VersionClass) (n : ℕ) (l : List ℕ) (i : ℕ) (at : Filled) (s s' p p' : List ℕ) (r : TableRead) →
+pub globals-filled : (c : VersionClass) (n : ℕ) (l : List ℕ) (i : ℕ) (at : Filled) (s s' p p' : List ℕ) (r : Result (ℕ × Filled) Refused) →
     Filling global_words no_runs n (times n (global_at c) l i) at.words at.bytes s s' p p' r →
     Fills at (global_rows (times n (global_at c) l i)) s s' p p' r
 unfolding global_rows
@@ -99,7 +96,7 @@ globals-filled c n l i at s s' p p' r x =
     filling-fills global_words no_runs (λ vs. record { rows = length vs; words = join (map global_words vs); runs = [] }) global-rows n
     at s s' p p' r (times n (global_at c) l i) (times-length n (global_at c) l i) x
 
-pub funcs-filled : (n : ℕ) (l : List ℕ) (i : ℕ) (at : Filled) (s s' p p' : List ℕ) (r : TableRead) →
+pub funcs-filled : (n : ℕ) (l : List ℕ) (i : ℕ) (at : Filled) (s s' p p' : List ℕ) (r : Result (ℕ × Filled) Refused) →
     Filling func_words func_runs n (times n (function_at 0) l i) at.words at.bytes s s' p p' r →
     Fills at (located_rows (times n (function_at 0) l i)) s s' p p' r
 unfolding located_rows
@@ -107,25 +104,25 @@ funcs-filled n l i at s s' p p' r x =
     filling-fills func_words func_runs (λ vs. bodied (apart vs).values) func-rows n at s s' p p' r (times n (function_at 0) l i)
     (times-length n (function_at 0) l i) x
 
--- Words that are put one by one.
-put_next : (s : List ℕ) (w : ℕ) (ws s' s'' : List ℕ) (v : ℕ) → s' ≡ put_words s w ws → s'' ≡ put_word s' (w + length ws) v →
-    s'' ≡ put_words s w (ws ++ (v ∷ []))
-unfolding put_words
-put_next s w ws s' s'' v e f = f ∙ ap (λ t. put_word t (w + length ws) v) e ∙ sym (put_words-append ws (v ∷ []) s w)
+-- The words of a row, one by one: from word k of the row on ..
+module _ (ws : List ℕ) (s : List ℕ) (i : ℕ) where
+  pub row-begun : put_words s (i + 0) (drop 0 ws) ≡ put_words s i ws
+  row-begun = ap (λ i. put_words s i ws) (add-zero i)
 
-module _ (s : List ℕ) (w a b c d e : ℕ) (s1 s2 s3 s4 s5 : List ℕ) (e1 : s1 ≡ put_word s w a) (e2 : s2 ≡ put_word s1 (w + 1) b)
-    (e3 : s3 ≡ put_word s2 (w + 2) c) (e4 : s4 ≡ put_word s3 (w + 3) d) (e5 : s5 ≡ put_word s4 (w + 4) e) where
-  pub five-words : s5 ≡ put_words s w (a ∷ b ∷ c ∷ d ∷ e ∷ [])
+  -- .. one more ..
+  pub row_more : (k : ℕ) (t : List ℕ) → k < length ws → t ≡ put_word s (i + k) (get_or ws k 0) →
+      put_words s (i + k) (drop k ws) ≡ put_words t (i + (k + 1)) (drop (k + 1) ws)
   unfolding put_words
-  five-words =
-      let f1 : s1 ≡ put_words s w (a ∷ []) = e1 in
-      let f2 = put_next s w (a ∷ []) s1 s2 b f1 e2 in
-      let f3 = put_next s w (a ∷ b ∷ []) s2 s3 c f2 e3 in
-      let f4 = put_next s w (a ∷ b ∷ c ∷ []) s3 s4 d f3 e4 in
-      put_next s w (a ∷ b ∷ c ∷ d ∷ []) s4 s5 e f4 e5
+  row_more k t h e =
+      let o : suc k ≡ k + 1 = omega arith in
+      let m : i + k + 1 ≡ i + (k + 1) = omega arith in
+      ap (put_words s (i + k)) (drop-cons ws k 0 h) ∙ ap (λ t. put_words t (i + k + 1) (drop (suc k) ws)) (sym e) ∙
+      ap₂ (λ p q. put_words t p (drop q ws)) m o
 
-  pub six-words : (f : ℕ) (s6 : List ℕ) → s6 ≡ put_word s5 (w + 5) f → s6 ≡ put_words s w (a ∷ b ∷ c ∷ d ∷ e ∷ f ∷ [])
-  six-words f s6 e6 = put_next s w (a ∷ b ∷ c ∷ d ∷ e ∷ []) s5 s6 f five-words e6
+  -- .. and none behind the last.
+  pub row_done : (k : ℕ) → length ws ≤ k → put_words s (i + k) (drop k ws) ≡ s
+  unfolding put_words
+  row_done k h = ap (put_words s (i + k)) (drop_of_length-le ws h)
 
 -- The section: its count is refused, or its rows follow.
 pub globals-stop : (c : VersionClass) (l : List ℕ) (x k : ℕ) → varint_at l 0 ≡ stop x k → global_rows (globals_at c 0 l 0) ≡ stop x k
@@ -139,7 +136,7 @@ unfolding global_rows globals_at upto counted sequence.bind follow
 globals-end c l n j (got vs k) e t = rw (e, t)
 globals-end c l n j (stop x k) e t = rw (e, t)
 
-pub globals-all : (c : VersionClass) (l : List ℕ) (n j : ℕ) (at : Filled) (s s' p p' : List ℕ) (r : TableRead) → varint_at l 0 ≡ got n j →
+pub globals-all : (c : VersionClass) (l : List ℕ) (n j : ℕ) (at : Filled) (s s' p p' : List ℕ) (r : Result (ℕ × Filled) Refused) → varint_at l 0 ≡ got n j →
     Fills at (global_rows (times n (global_at c) l j)) s s' p p' r → Fills at (global_rows (globals_at c 0 l 0)) s s' p p' r
 unfolding global_rows
 globals-all c l n j at s s' p p' r e x =
@@ -156,7 +153,7 @@ unfolding function_rows functions_at upto counted sequence.bind sequence.mapped 
 funcs-end l n j (got vs k) e t = rw (e, t)
 funcs-end l n j (stop x k) e t = rw (e, t)
 
-pub funcs-all : (l : List ℕ) (n j : ℕ) (at : Filled) (s s' p p' : List ℕ) (r : TableRead) → varint_at l 0 ≡ got n j →
+pub funcs-all : (l : List ℕ) (n j : ℕ) (at : Filled) (s s' p p' : List ℕ) (r : Result (ℕ × Filled) Refused) → varint_at l 0 ≡ got n j →
     Fills at (located_rows (times n (function_at 0) l j)) s s' p p' r → Fills at (function_rows (functions_at 0 l 0)) s s' p p' r
 unfolding located_rows
 funcs-all l n j at s s' p p' r e x =

@@ -6,7 +6,7 @@ use native.Mathlib.Nat.{add-zero, zero-add}
 use native.Mathlib.Omega.{arith}
 use native.Mathlib.Decide.{dec_lt}
 use mathlib.Core.List.{List, [], ◌∷◌, ◌++◌, append-nil, append_assoc}
-use lib.ListN.{length, get_or, take, drop, set, replicate, length-set, drop_of_length-le}
+use lib.ListN.{length, get_or, take, drop, set, replicate, length-set}
 use lib.Seq.{drop-cons, get_or-take, get_or-drop, take-add, take_all, take-set-le, get_or-set_same}
 use Rattle.exact.specs.Got.{Got, got, follow}
 use Rattle.exact.specs.Basic.{byte, pure}
@@ -18,18 +18,20 @@ use Rattle.enums.proofs.LawsDebug.{counts-few}
 use Rattle.reading.specs.Numbers.{varint_at}
 use Rattle.format.specs.Debug.{attribute_of}
 use Rattle.format.specs.Sheet.{attribute_words}
-use Rattle.sheet.specs.Store.{put_word, put_words}
+use Rattle.sheet.specs.Store.{put_words}
 use Rattle.entries.proofs.LawsEntries.{part_length}
 use Rattle.payloads.specs.Indices.{Spans}
 use Rattle.payloads.specs.Shorts.{high_at, shorts}
 use Rattle.payloads.specs.declared.debug.Shorts.{Shorts}
 use Rattle.payloads.specs.TypeRows.{Row}
-use Rattle.payloads.specs.declared.fields.SpotRead.{SpotRead}
-use Rattle.payloads.specs.declared.fields.SpotRead.TheVariants as spot
+use Rattle.std.specs.Prelude.{Result, Ok}
+use Rattle.reading.specs.declared.Refused.{Refused}
+use Rattle.payloads.specs.declared.fields.Spot.{Spot}
 use Rattle.payloads.proofs.LawsEntryRows.{row-got}
 use Rattle.payloads.proofs.LawsIndices.{spans-one, spans-two}
 use Rattle.payloads.proofs.LawsFields.{times-length}
-use Rattle.payloads.proofs.LawsDebug.{words-of, one_at, one-got}
+use Rattle.payloads.proofs.LawsDebug.{words-of, one-got}
+use Rattle.payloads.specs.DebugRows.{attribute_row}
 
 -- What a second byte counts is little.
 pub high_small : (d : List ℕ) (i : ℕ) → get_or d i 0 < 256 → get_or d (i + 1) 0 < 256 → (128 * (get_or d i 0 / 128) < 256) × (high_at d i < 32768)
@@ -124,29 +126,6 @@ module _ (d : List ℕ) (n from : ℕ) where
           rw (e, f ∙ sym (add-zero long), u)
           (going_on 0 0 i more (omega arith) (omega arith) (rw (c, zero-add) (ap₂ (shorts d i) a b)))
 
--- The fields of a row, one by one.
-module _ (ws : List ℕ) (s : List ℕ) (i k : ℕ) where
-  pub row_more : (n : ℕ) (t : List ℕ) → length ws ≡ n → k < n → t ≡ put_word s (i + k) (get_or ws k 0) →
-      put_words s (i + k) (drop k ws) ≡ put_words t (i + (k + 1)) (drop (k + 1) ws)
-  unfolding put_words
-  row_more n t z h e =
-      let o : suc k ≡ k + 1 = omega arith in
-      let m : i + k + 1 ≡ i + (k + 1) = omega arith in
-      ap (put_words s (i + k)) (drop-cons ws k 0 (omega arith)) ∙ ap (λ t. put_words t (i + k + 1) (drop (suc k) ws)) (sym e) ∙
-      ap₂ (λ p q. put_words t p (drop q ws)) m o
-
-  pub row-begun : put_words s (i + 0) (drop 0 ws) ≡ put_words s i ws
-  row-begun = ap (λ i. put_words s i ws) (add-zero i)
-
-  pub row_done : (n : ℕ) → length ws ≡ n → n ≤ k → put_words s (i + k) (drop k ws) ≡ s
-  unfolding put_words
-  row_done n e h = ap (put_words s (i + k)) (drop_of_length-le ws {i = k} (omega arith))
-
--- They stand behind the tag.
-pub row-tagged : (ws : List ℕ) (t w : ℕ) (s s₁ s' : List ℕ) → s₁ ≡ put_word s w t → s' ≡ put_words s₁ (w + 1) ws → s' ≡ put_words s w (t ∷ ws)
-unfolding put_words
-row-tagged ws t w s s₁ s' e f = f ∙ ap (λ s. put_words s (w + 1) ws) e
-
 -- What such numbers are.
 module _ (d : List ℕ) where
   -- Numbers end behind where they begin.
@@ -219,7 +198,7 @@ module _ (d : List ℕ) (s z : ℕ) (inside : z ≤ length d) (bytes : (i : ℕ)
 
   -- An attribute of such numbers.
   pub short-attribute : s < z → get_or d s 0 < 7 → (r : Shorts) → r ≡ shorts d (s + 1) (get_or field_counts (get_or d s 0) 0) 6 → r.end ≤ z → r.long ≤ 0 →
-      (one_at entry_in ≡ got (get_or d s 0 ∷ r.words) (z - s)) × (length (get_or d s 0 ∷ r.words) ≡ 7)
+      (attribute_row entry_in ≡ got (get_or d s 0 ∷ r.words) (z - s)) × (length (get_or d s 0 ∷ r.words) ≡ 7)
   short-attribute p t r e q l =
       let c : ℕ = get_or d s 0 in
       let n = part_length s z d (omega arith) inside in
@@ -236,10 +215,10 @@ module _ (d : List ℕ) (s z : ℕ) (inside : z ≤ length d) (bytes : (i : ℕ)
       (one-got entry_in c 1 b t vs j h ∙ ap₂ got (sym w) n, m)
 
 -- The row of an attribute that is put.
-pub short_row : (l ws : List ℕ) (j w v : ℕ) (s s' : List ℕ) → one_at l ≡ got ws j → length ws ≡ 7 → s' ≡ put_words s w ws →
-    Row (one_at l) w s s' (spot.Got record { pos = j; word = w + 7; value = v })
+pub short_row : (l ws : List ℕ) (j w v : ℕ) (s s' : List ℕ) → attribute_row l ≡ got ws j → length ws ≡ 7 → s' ≡ put_words s w ws →
+    Row (attribute_row l) w s s' (Ok record { pos = j; word = w + 7; value = v })
 short_row l ws j w v s s' e n p = row-got _ w s s' ws _ e (ap (λ k. w + k) (sym n)) p
 
 -- A row is put into the sheet that was there.
-pub row_from : (g : Got (List ℕ)) (w : ℕ) (s t s' : List ℕ) (r : SpotRead) → s ≡ t → Row g w s s' r → Row g w t s' r
+pub row_from : (g : Got (List ℕ)) (w : ℕ) (s t s' : List ℕ) (r : Result Spot Refused) → s ≡ t → Row g w s s' r → Row g w t s' r
 row_from g w s t s' r e x = subst (λ s. Row g w s s' r) e x

@@ -32,19 +32,18 @@ use Rattle.entries.proofs.LawsEntries.{
   Before,
   run-first,
   part-is,
-  part_length,
   entries_left,
   left-none,
   left-bad,
   left-good,
 }
 use Rattle.payloads.specs.Fill as fill
-use Rattle.payloads.specs.Fill.{Fills, count_of}
+use Rattle.payloads.specs.Fill.{Fills}
 use Rattle.payloads.specs.Tables.{run_rows, filling}
 use Rattle.payloads.specs.declared.answers.Filled.{Filled}
-use Rattle.payloads.specs.declared.answers.TableRead.{TableRead}
-use Rattle.payloads.specs.declared.answers.TableRead.TheVariants as table
-use Rattle.payloads.proofs.LawsFill.{fills-some}
+use Rattle.std.specs.Prelude.{Result, Ok}
+use Rattle.reading.specs.declared.Refused.{Refused}
+use Rattle.payloads.proofs.LawsFill.{fills-read}
 use Rattle.payloads.proofs.LawsFilling.{Filling, filling-more, filling-fills}
 
 -- The word and the run of a row.
@@ -71,22 +70,20 @@ module _ (w : ℕ) (run : List ℕ) (b n : ℕ) (d : List ℕ) (some_bytes : 0 <
   abbrev entry_of : List ℕ
   entry_of = take (e - s) (drop s d)
 
-  next : (entries_left w 0 whole run b n d k s i ≡ follow (entries_left w 0 whole run b n d r e j) (λ vs x. got (entry_of ∷ vs) x)) ×
-      (length entry_of ≡ e - s)
+  next : entries_left w 0 whole run b n d k s i ≡ follow (entries_left w 0 whole run b n d r e j) (λ vs x. got (entry_of ∷ vs) x)
   unfolding raised whole follow
   next =
       let (x, l, h, y, z) = left-good w 0 whole run b n d some_bytes (length d) refl k r s i more before e j good in
       let p : entry_of ≡ drop s (take e d) = part-is s e d (omega arith) h in
-      (rw p y, part_length s e d (omega arith) h)
+      rw p y
 
-  pub runs-more : (m v c : ℕ) (t t₁ t' q q₁ q' : List ℕ) (a : TableRead) → t₁ ≡ put_word t v (e - s) → q₁ ≡ put q c entry_of →
-      Filling run_words run_only m (entries_left w 0 whole run b n d r e j) (v + 1) (c + (e - s)) t₁ t' q₁ q' a →
+  pub runs-more : (m v c : ℕ) (t t₁ t' q q₁ q' : List ℕ) (a : Result (ℕ × Filled) Refused) → t₁ ≡ put_word t v (length entry_of) → q₁ ≡ put q c entry_of →
+      Filling run_words run_only m (entries_left w 0 whole run b n d r e j) (v + 1) (c + length entry_of) t₁ t' q₁ q' a →
       Filling run_words run_only m (entries_left w 0 whole run b n d k s i) v c t t' q q' a
   unfolding put_words put_runs
   runs-more m v c t t₁ t' q q₁ q' a f g x =
-      let (y, z) = next in
-      let l : e - s ≡ length (entry_of ++ []) = sym z ∙ ap length (sym (append-nil entry_of)) in
-      filling-more run_words run_only m v c t t' q q' entry_of t₁ q₁ a _ _ y (f ∙ ap (put_word t v) (sym z)) g
+      let l : length entry_of ≡ length (entry_of ++ []) = ap length (sym (append-nil entry_of)) in
+      filling-more run_words run_only m v c t t' q q' entry_of t₁ q₁ a _ _ next f g
       (subst (λ o. Filling run_words run_only m (entries_left w 0 whole run b n d r e j) (v + 1) (c + o) t₁ t' q₁ q' a) l x)
 
 -- The last k entries stand one behind the other up to the data's end.
@@ -104,7 +101,7 @@ module _ (w : ℕ) (run : List ℕ) (b n : ℕ) (d : List ℕ) (some_bytes : 0 <
   tiles_more : (r s i : ℕ) → Before w (length d) run (suc r) s i →
       ((e j : ℕ) → Before w (length d) run r e j → Tiles r e j) → (g : Got ℕ) → end_at w 0 (length d) s run i ≡ g → Tiles (suc r) s i
   tiles_more r s i h rest (got e j) q vs x f =
-      let (y, z) = next w run b n d some_bytes (suc r) r s i refl h e j q in
+      let y = next w run b n d some_bytes (suc r) r s i refl h e j q in
       let (c, m, o, _, _) = left-good w 0 whole run b n d some_bytes (length d) refl (suc r) r s i refl h e j q in
       let (us, k, u, v) = follow-inv (entries_left w 0 whole run b n d r e j) (λ vs x. got (take (e - s) (drop s d) ∷ vs) x) vs x (sym y ∙ f) in
       let (a, l) = rest e j c us k u in
@@ -126,7 +123,7 @@ filling-values (stop c k) = refl
 
 -- All entries are filled in.
 pub runs-filled : (w : ℕ) (l : List ℕ) (t : Starts) → 0 < w → Lies w l t → (s j : ℕ) →
-    got s j ≡ number_or w (length (rest_of l t)) (run_of l t) 0 → (at : Filled) (v v' p p' : List ℕ) (a : TableRead) →
+    got s j ≡ number_or w (length (rest_of l t)) (run_of l t) 0 → (at : Filled) (v v' p p' : List ℕ) (a : Result (ℕ × Filled) Refused) →
     Filling run_words run_only t.count (entries_left w 0 whole (run_of l t) t.data (length l) (rest_of l t) t.count s j)
     at.words at.bytes v v' p p' a → Fills at (filling (entries_in 0 w l t)) v v' p p' a
 unfolding entries_in
@@ -162,18 +159,18 @@ module _ (w : ℕ) (l : List ℕ) (t : Starts) (some_bytes : 0 < w) (lies : Lies
       (h, ap (λ r. join r.runs) (sym (got-value b)) ∙ z)
 
   -- .. which begins inside of it ..
-  pub front-inside : (at : Filled) {v v' q q' : List ℕ} {r : TableRead} {n : ℕ} {f : Filled} → r ≡ table.Got n f →
-      Fills at (filling (entries_in 0 w l t)) v v' q q' r → s ≤ length (rest_of l t)
-  front-inside at e x = let (y, k, z) = fills-some at e x in (found y k z).0
+  pub front-inside : (at : Filled) {v v' q q' : List ℕ} {n : ℕ} {f : Filled} →
+      Fills at (filling (entries_in 0 w l t)) v v' q q' (Ok (n, f)) → s ≤ length (rest_of l t)
+  front-inside at x = let (y, k, z, a) = fills-read at _ x in (found y k z).0
 
   -- .. and so one copy puts them, behind the nothing that was lent.
-  pub put-at-once : (at : Filled) {v v' q q' : List ℕ} (none p p' : List ℕ) {r a : TableRead} → length none ≡ 0 →
-      at.bytes ≤ length p → length (rest_of l t) ≤ length p - at.bytes → r ≡ a → Fills at (filling (entries_in 0 w l t)) v v' q q' r →
+  pub put-at-once : (at : Filled) {v v' q q' : List ℕ} (none p p' : List ℕ) {a : Result (ℕ × Filled) Refused} → length none ≡ 0 →
+      at.bytes ≤ length p → length (rest_of l t) ≤ length p - at.bytes → Fills at (filling (entries_in 0 w l t)) v v' q q' a →
       p' ≡ put (none ++ p) at.bytes (take (length (rest_of l t) - s) (drop s (rest_of l t))) →
       Fills at (filling (entries_in 0 w l t)) v v' p p' a
-  put-at-once at none p p' n inside room e x y =
+  put-at-once at none p p' n inside room x y =
       record {
-        answer = sym (ap count_of e) ∙ x.answer;
+        answer = x.answer;
         words = x.words;
         runs = λ r k f.
             let d = rest_of l t in

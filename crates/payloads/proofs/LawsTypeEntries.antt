@@ -1,11 +1,15 @@
 -- Rows of type entries: the presence below 13.3, the choice by tag, and the count before a row. Assumes nothing.
+use Rattle.std.specs.Prelude.{Result, Ok, Err}
+use Rattle.reading.specs.Shown.{stop_of}
 use mathlib.Core.Path.{◌≡◌, refl, sym, ap, ◌∙◌, subst}
-use Prim.Native.Nat.{ℕ, ◌+◌, ◌-◌, ◌*◌, ◌^◌, ◌≤◌, ◌<◌}
+use Prim.Native.Nat.{ℕ, ◌+◌, ◌-◌, ◌≤◌, ◌<◌}
 use native.Mathlib.Nat.{add-zero}
-use borrow.Author.Tests.{ne_eqb}
+use borrow.Author.Tests.{eq-eqb, ne_eqb}
+use lib.Dec.{eqb}
+use mir.Val.{bool_byte}
 use native.Mathlib.Decide.{ℕ_discrete}
 use native.Mathlib.Omega.{arith}
-use mathlib.Core.Bool.{Bool, true, false, Bool-discrete, false≢true}
+use mathlib.Core.Bool.{Bool, true, false, not, Bool-discrete, false≢true}
 use mathlib.Core.List.{List, [], ◌∷◌, ◌++◌}
 use lib.ListN.{length, length-append}
 use Rattle.exact.specs.Got.{Got, got, stop, follow}
@@ -15,8 +19,9 @@ use Rattle.exact.specs.Sequence.{bind, mapped}
 use Rattle.exact.specs.Padding.{here}
 use Rattle.exact.specs.Refuse.{pick_at, refuse}
 use Rattle.exact.specs.Upto.{upto}
-use Rattle.exact.proofs.LawsExact.{got-value}
-use Rattle.reading.proofs.LawsNumbers.{varint-in}
+use Rattle.exact.proofs.LawsExact.{got-value, got-next, stop-not-got}
+use Rattle.exact.proofs.LawsSequence.{follow-inv, bind-stop}
+use Rattle.enums.specs.declared.Refusal.TheVariants.{TypeTag}
 use Rattle.exact.proofs.LawsChoice.{choose_yes, choose_no}
 use Rattle.exact.specs.Kinds.{Case}
 use Rattle.enums.specs.Refusals as refusals
@@ -43,45 +48,20 @@ use Rattle.format.specs.DecodeTypes.{
   fields_at,
   type_entry_at,
 }
+use Rattle.format.proofs.LawsItems.{truth-zero, truth-one}
 use Rattle.sheet.specs.Store.{put_word, put_words}
 use Rattle.sheet.proofs.LawsStore.{put_words-append}
 use Rattle.payloads.specs.declared.fields.Number.TheVariants.{Byte}
 use Rattle.payloads.specs.declared.fields.Spot.{Spot}
-use Rattle.payloads.specs.declared.fields.SpotRead.{SpotRead}
-use Rattle.payloads.specs.declared.fields.SpotRead.TheVariants as spot
-use Rattle.payloads.specs.Fields.{number_at, as_word, unput, value_of, Put, Copied, Within, Grows}
-use Rattle.payloads.specs.TypeRows.{partition_at, place_of, Row, Spare, Short}
+use Rattle.payloads.specs.Fields.{number_at, as_word, Put, Step}
+use Rattle.payloads.specs.TypeRows.{partition_at, place_of, Row, Kind}
 use Rattle.payloads.proofs.LawsWords.{word-before}
-use Rattle.payloads.proofs.LawsFields.{number_in}
-use Rattle.payloads.proofs.LawsTypes.{Via, old_end, old_steps, old-says}
-
-module _ (l : List ℕ) {from : SpotRead} (at : Spot) (e : from ≡ spot.Got at) where
-  pub presence-got : (b j v : ℕ) → byte l at.pos ≡ got b j → v ≡ truth b → (s : List ℕ) →
-      Copied (unput (mapped truth byte)) l from s s (spot.Got record { pos = j; word = at.word; value = v })
-  unfolding Copied Put unput mapped bind follow pure put_words
-  presence-got b j v g h s =
-      subst (λ f. Copied (unput (mapped truth byte)) l f s s (spot.Got record { pos = j; word = at.word; value = v })) (sym e)
-      (rw g (
-        ap (λ v. spot.Got record { pos = j; word = at.word; value = v }) h ∙
-            ap (λ w. spot.Got record { pos = j; word = w; value = truth b }) (sym (add-zero at.word)),
-        refl,
-      ))
-
-  pub presence-stop : (x : Refused) → byte l at.pos ≡ stop x.no x.at → (s : List ℕ) →
-      Copied (unput (mapped truth byte)) l from s s (spot.Stop x)
-  unfolding Copied Put unput mapped bind follow pure
-  presence-stop x g s = subst (λ f. Copied (unput (mapped truth byte)) l f s s (spot.Stop x)) (sym e) (rw g refl)
-
-  pub grows-presence : (b j v : ℕ) → byte l at.pos ≡ got b j →
-      Grows l from (spot.Got record { pos = j; word = at.word; value = v })
-  unfolding Within Grows number_at
-  grows-presence b j v g i w n x =
-      let y : Within l i w n (spot.Got at) = subst (Within l i w n) e x in
-      let m = number_in Byte l at.pos b j (sym g) in
-      (m.1, omega (arith, y.1, m.0))
+use Rattle.payloads.proofs.LawsFields.{map-got, map-stop, number_in, number-stop, put-got, put-err, put-stop, within-then, within-most}
+use Rattle.payloads.proofs.LawsTypes.{Via, unput, old_end, old_steps, old-says, Ran, run, stopped}
+use Rattle.payloads.proofs.LawsEntryRows.{row-stop, row_put}
 
 -- A row below 13.3: tag and presence are put before words that are there already.
-module _ (l s s' : List ℕ) (i w v : ℕ) (ws : List ℕ) (j : ℕ) (r : SpotRead) (e : old_steps l i ≡ got (v, ws) j) where
+module _ (l s s' : List ℕ) (i w v : ℕ) (ws : List ℕ) (j : ℕ) (r : Result Spot Refused) (e : run old_steps l i ≡ got (v, ws) j) where
   old-words : put_word (put_word (put_words s (w + 2) ws) (w + 1) v) w tags.tag_partition_view ≡
       put_words s w (tags.tag_partition_view ∷ v ∷ ws)
   unfolding put_words
@@ -112,48 +92,83 @@ module _ (l s s' : List ℕ) (i w v : ℕ) (ws : List ℕ) (j : ℕ) (r : SpotRe
   old-end (stop c k) f x =
       let m = old-model (stop c k) (rw f refl) in
       let y = rw f at x in
-      rw m (ap place_of y)
+      rw m (stopped r c k y)
 
-module _ (l s s₁ s₂ s' : List ℕ) (i w : ℕ) (r₁ r : SpotRead) (u : ℕ) (value : u ≡ value_of r₁)
-    (puts : s₂ ≡ put_word (put_word s₁ (w + 1) u) w tags.tag_partition_view)
-    (last : Copied (as_word (field_at (ℕ_discrete u 1) varint_at)) l r₁ s₂ s' r) where
-  old-any : (g : Got (ℕ × List ℕ)) → old_steps l i ≡ g → Put g (w + 2) s s₁ r₁ → Row (mapped field_words old_partition_view_at l i) w s s' r
-  unfolding Put Copied value_of Row place_of Via bind follow
-  old-any (got a j) e (x, y) =
-      let q : u ≡ a.0 = value ∙ ap value_of x in
-      let p : s₂ ≡ put_words s w (tags.tag_partition_view ∷ a.0 ∷ a.1) =
-      puts ∙ rw (q, y) (old-words l s s' i w a.0 a.1 j r e) in
-      let z : Copied (as_word (field_at (ℕ_discrete a.0 1) varint_at)) l
-      (spot.Got record { pos = j; word = w + 2 + length a.1; value = a.0 })
-      (put_words s w (tags.tag_partition_view ∷ a.0 ∷ a.1)) s' r =
-      subst (λ t. Copied (as_word (field_at (ℕ_discrete a.0 1) varint_at)) l t (put_words s w (tags.tag_partition_view ∷ a.0 ∷ a.1)) s' r) x
-      (subst (λ t. Copied (as_word (field_at (ℕ_discrete a.0 1) varint_at)) l r₁ t s' r) p
-      (subst (λ n. Copied (as_word (field_at (ℕ_discrete n 1) varint_at)) l r₁ s₂ s' r) q last)) in
-      old-end l s s' i w a.0 a.1 j r e (field_at (ℕ_discrete a.0 1) varint_at l j) refl z
-  old-any (stop c k) e x =
-      let z : r ≡ spot.Stop record { no = c; at = k } =
-      subst (λ t. Copied (as_word (field_at (ℕ_discrete u 1) varint_at)) l t s₂ s' r) x last in
-      let m : mapped field_words old_partition_view_at l i ≡ stop c k = old-says l i ∙ rw e in
-      rw m (ap place_of z)
+-- Whether a byte is nonzero, as it is tested.
+pub truth-test : (v r : ℕ) → r ≡ bool_byte (not (eqb v 0)) → r ≡ truth v
+truth-test v r h =
+    elim (ℕ_discrete v 0) [
+      | yes e ↦ let k = rw (eq-eqb v 0 e) at h in k ∙ truth-zero v e
+      | no n ↦ let k = rw (ne_eqb v 0 n) at h in k ∙ truth-one v n
+    ]
 
-  pub old_row : Copied old_steps l (spot.Got record { pos = i; word = w + 2; value = 0 }) s s₁ r₁ →
-      Row (mapped field_words old_partition_view_at l i) w s s' r
-  unfolding Copied
-  old_row x = old-any (old_steps l i) refl x
+-- A presence that was read, ..
+map-back : {A B : Type 0} (f : A → B) (p : Parser A) (l : List ℕ) (i : ℕ) (v : B) (j : ℕ) → mapped f p l i ≡ got v j → (b : A) × (p l i ≡ got b j)
+unfolding mapped bind pure
+map-back f p l i v j e =
+    let (b, k, a, d) = follow-inv (p l i) (λ b k. got (f b) k) v j e in
+    (b, a ∙ ap (got b) (got-next d))
 
-pub old-within : (l : List ℕ) (at : Spot) → Spare l at →
-    Within l at.pos at.word 2 (spot.Got record { pos = at.pos; word = at.word + 2; value = 0 })
-unfolding Spare Within
-old-within l at h = (h.0, omega arith)
+pub presence-got : (l s : List ℕ) (t : Spot) (v j : ℕ) → got v j ≡ mapped truth byte l t.pos →
+    Step 1 (unput (mapped truth byte)) l t s s (Ok record { pos = j; word = t.word; value = v })
+unfolding unput Put put_words number_at
+presence-got l s t v j e =
+    let (b, a) = map-back truth byte l t.pos v j (sym e) in
+    let m = number_in Byte l t.pos b j (sym a) in
+    let g : mapped {B = ℕ × List ℕ} (λ v. (v, [])) (mapped truth byte) l t.pos ≡ got (v, []) j = map-got (λ v. (v, [])) (mapped truth byte) l t.pos v j (sym e) in
+    record {
+      put = subst (λ g. Put g t.word s s (Ok record { pos = j; word = t.word; value = v })) (sym g) (rw add-zero refl, refl);
+      within = (m.1, omega (arith, m.0));
+    }
 
-pub spare-word : (l : List ℕ) (at : Spot) → Spare l at → at.word + 8 < 2 ^ 63
-unfolding Spare
-spare-word l at h = omega (arith, h.1)
+-- .. or was refused.
+map-short : {A B : Type 0} (f : A → B) (p : Parser A) (l : List ℕ) (i c k : ℕ) → mapped f p l i ≡ stop c k → (g : Got A) → p l i ≡ g → p l i ≡ stop c k
+unfolding mapped bind follow pure
+map-short f p l i c k e (got v j) h = let y = rw h at e in absurd (stop-not-got (sym y))
+map-short f p l i c k e (stop d m) h = let y = rw h at e in h ∙ cc y
 
--- A row by a parser that is the same.
-pub row_as : (P Q : Parser TypeRow) (l : List ℕ) (i w : ℕ) (s s' : List ℕ) (r : SpotRead) → P ≡ Q → Row (mapped field_words P l i) w s s' r →
-    Row (mapped field_words Q l i) w s s' r
-row_as P Q l i w s s' r e x = subst (λ P. Row (mapped field_words P l i) w s s' r) e x
+pub presence-stop : (l s s' : List ℕ) (t : Spot) (x : Refused) → t.pos ≤ length l → stop_of x ≡ mapped truth byte l t.pos →
+    Step 1 (unput (mapped truth byte)) l t s s' (Err x)
+unfolding unput number_at
+presence-stop l s s' t x low e =
+    let a = map-short truth byte l t.pos _ x.at (sym e) (byte l t.pos) refl in
+    record {
+      put = put-stop _ t.word s s' x (map-stop (λ v. (v, [])) (mapped truth byte) l t.pos _ x.at (sym e));
+      within = omega (arith, number-stop Byte l t.pos _ x.at a);
+    }
+
+-- Below 13.3 a step is refused, ..
+pub old-stop : {n : ℕ} {l s s' : List ℕ} (at : Spot) {x : Refused} →
+    Ran n old_steps l (record { pos = at.pos; word = at.word + 2; value = at.value }) s s' (Err x) → Kind old_partition_view_at l at s s' (Err x)
+unfolding Via
+old-stop {l = l} {s} {s'} at {x} y =
+    let e = put-err (run old_steps l at.pos) (at.word + 2) s s' x y.step.put in
+    record {
+      row = row-stop _ at.word s s' x (old-says l at.pos ∙ bind-stop (run old_steps) _ l at.pos _ x.at (sym e));
+      within = y.step.within;
+    }
+
+-- .. or tag and presence are put before what was read, and the padding behind it.
+pub old_kind : {n m : ℕ} {l s s₁ s₂ s' : List ℕ} (at : Spot) {b : Spot} {r : Result Spot Refused} → n + m ≤ 5 →
+    Ran n old_steps l (record { pos = at.pos; word = at.word + 2; value = at.value }) s s₁ (Ok b) →
+    s₂ ≡ put_word (put_word s₁ (at.word + 1) b.value) at.word tags.tag_partition_view →
+    Step m (as_word (field_at (ℕ_discrete b.value 1) varint_at)) l b s₂ s' r → Kind old_partition_view_at l at s s' r
+old_kind {n} {m} {l} {s} {s₁} {s₂} {s'} at {b} {r} few y p z =
+    let (ws, e, w, q) = put-got (run old_steps l at.pos) (at.word + 2) s s₁ b y.step.put in
+    let o : s₂ ≡ put_words s at.word (tags.tag_partition_view ∷ b.value ∷ ws) =
+    p ∙ ap (λ x. put_word (put_word x (at.word + 1) b.value) at.word tags.tag_partition_view) q ∙
+    (old-words l s s' at.pos at.word b.value ws b.pos r e) in
+    let x : Put (as_word (field_at (ℕ_discrete b.value 1) varint_at) l b.pos) (at.word + 2 + length ws) (put_words s at.word (tags.tag_partition_view ∷ b.value ∷ ws)) s' r =
+    rw (← w, ← o) z.put in
+    record {
+      row = old-end l s s' at.pos at.word b.value ws b.pos r e (field_at (ℕ_discrete b.value 1) varint_at l b.pos) refl x;
+      within = within-most l at.pos at.word (2 + n + m) 7 r (omega arith)
+          (within-then l (2 + n) m at.pos at.word b r (omega (arith, y.step.within.1)) z.within);
+    }
+
+-- A kind by a parser that is the same.
+pub kind-as : {P Q : Parser TypeRow} {l s s' : List ℕ} {t : Spot} {r : Result Spot Refused} → P ≡ Q → Kind P l t s s' r → Kind Q l t s s' r
+kind-as {l = l} {s} {s'} {t} {r} e x = subst (λ P. Kind P l t s s' r) e x
 
 -- Partition views by class.
 pub partition-since : (c : VersionClass) {b : Bool} → b ≡ since13_3 c → b ≡ true → partition_view_at ≡ partition_at c
@@ -298,80 +313,63 @@ unknown-plain t h n =
 
 module _ (c : VersionClass) (t : ℕ) (l s s' : List ℕ) (at : Spot) where
   -- A tag without fields is a row of itself ..
-  pub plain_row : (u : Spot) → among t plain_tags ≡ true → u ≡ record { pos = at.pos; word = at.word + 1; value = t } →
-      s' ≡ put_word s at.word t → Row (mapped field_words (fields_at c 0 t) l at.pos) at.word s s' (spot.Got u)
+  pub plain_kind : (u : Spot) → at.pos ≤ length l → among t plain_tags ≡ true → u ≡ record { pos = at.pos; word = at.word + 1; value = t } →
+      s' ≡ put_word s at.word t → Kind (fields_at c 0 t) l at s s' (Ok u)
   unfolding mapped bind follow pure field_words Row place_of put_words
-  plain_row u h e p = rw (fields-plain c t h) (ap (λ u. got u.word u.pos) e, p)
+  plain_kind u low h e p =
+      let a = ap (λ u. u.pos) e in
+      let b = ap (λ u. u.word) e in
+      record {
+        row = rw (fields-plain c t h) (ap (λ u. got u.word u.pos) e, p);
+        within = (omega arith, omega arith);
+      }
 
   -- .. and one that is not known is refused.
-  pub unknown-row : 22 < t → ¬ (t ≡ 130) →
-      Row (mapped field_words (fields_at c 0 t) l at.pos) at.word s s' (spot.Stop record { no = refusals.type_tag; at = 0 })
-  unfolding mapped bind follow refuse Row place_of
-  unknown-row h n = rw (unknown-fields c t h (unknown-plain t h n)) refl
+  pub unknown-kind : 22 < t → ¬ (t ≡ 130) → Kind (fields_at c 0 t) l at s s' (Err record { refusal = TypeTag; at = 0 })
+  unfolding mapped bind follow refuse
+  unknown-kind h n =
+      record {
+        row = row-stop _ at.word s s' _ (rw (unknown-fields c t h (unknown-plain t h n)) refl);
+        within = omega arith;
+      }
 
 -- The count of a row is put before its words.
 module _ (c : VersionClass) (l : List ℕ) (w : ℕ) (s s₁ s' : List ℕ) where
-  pub entry-stop : (x : Refused) → varint_at l 0 ≡ stop x.no x.at → Row (mapped type_words (type_entry_at c) l 0) w s s' (spot.Stop x)
-  unfolding type_entry_at upto here mapped bind follow Row place_of
-  entry-stop x e = rw e refl
+  pub entry-stop : (x : Refused) → stop_of x ≡ varint_at l 0 → Row (mapped type_words (type_entry_at c) l 0) w s s' (Err x)
+  unfolding type_entry_at upto here mapped bind follow
+  entry-stop x e = row-stop _ w s s' x (rw (← e) refl)
 
-  module _ (t j : ℕ) (e : varint_at l 0 ≡ got t j) where
-    refused-any : (x : Refused) (g : Got TypeRow) → fields_at c 0 t l j ≡ g → Row (mapped field_words (fields_at c 0 t) l j) (w + 1) s s₁ (spot.Stop x) →
-        Row (mapped type_words (type_entry_at c) l 0) w s s' (spot.Stop x)
+  module _ (t j : ℕ) (e : got t j ≡ varint_at l 0) where
+    refused-any : (x : Refused) (g : Got TypeRow) → fields_at c 0 t l j ≡ g → Row (mapped field_words (fields_at c 0 t) l j) (w + 1) s s₁ (Err x) →
+        Row (mapped type_words (type_entry_at c) l 0) w s s' (Err x)
     unfolding type_entry_at upto here mapped bind follow pure Row place_of
-    refused-any x (got v k) f h = let y = rw f at h in let n : ◌≡◌ {A = ℕ} 0 1 = cc y.0 in let z : ⊥ = omega arith in absurd z
-    refused-any x (stop d k) f h = let y = rw f at h in rw (e, f) y
+    refused-any x (got v k) f h = let y = rw f at h in absurd (stop-not-got y.0)
+    refused-any x (stop d k) f h = let y = rw f at h in rw (← e, f) y
 
-    pub entry-refused : (x : Refused) → Row (mapped field_words (fields_at c 0 t) l j) (w + 1) s s₁ (spot.Stop x) →
-        Row (mapped type_words (type_entry_at c) l 0) w s s' (spot.Stop x)
+    pub entry-refused : (x : Refused) → Row (mapped field_words (fields_at c 0 t) l j) (w + 1) s s₁ (Err x) →
+        Row (mapped type_words (type_entry_at c) l 0) w s s' (Err x)
     entry-refused x h = refused-any x (fields_at c 0 t l j) refl h
 
     entry-any : (d : Spot) (u : ℕ) (g : Got TypeRow) → fields_at c 0 t l j ≡ g → s' ≡ put_word s₁ w (d.word - (w + 1)) →
-        Row (mapped field_words (fields_at c 0 t) l j) (w + 1) s s₁ (spot.Got d) →
-        Row (mapped type_words (type_entry_at c) l 0) w s s' (spot.Got record { pos = length l; word = d.word; value = u })
+        Row (mapped field_words (fields_at c 0 t) l j) (w + 1) s s₁ (Ok d) →
+        Row (mapped type_words (type_entry_at c) l 0) w s s' (Ok record { pos = length l; word = d.word; value = u })
     unfolding type_entry_at upto here mapped bind follow pure Row place_of type_words put_words
     entry-any d u (got v k) f p h =
         let (y, z) = rw f at h in
         let q : d.word ≡ w + 1 + length (field_words v) = got-value y in
         let n : d.word - (w + 1) ≡ length (field_words v) = omega arith in
         let o : w + 1 + length (field_words v) ≡ w + length (length (field_words v) ∷ field_words v) = omega arith in
-        rw (e, f) (
+        rw (← e, f) (
           ap (λ a. got a (length l)) (q ∙ o),
           p ∙ rw (n, z) (word-before (field_words v) s w (w + 1) (length (field_words v)) (omega arith)),
         )
-    entry-any d u (stop b k) f p h = let y = rw f at h in let n : ◌≡◌ {A = ℕ} 0 1 = cc y in let z : ⊥ = omega arith in absurd z
+    entry-any d u (stop b k) f p h = let y = rw f at h in absurd (stop-not-got (sym y))
 
     pub entry-got : (d : Spot) (u : ℕ) → s' ≡ put_word s₁ w (d.word - (w + 1)) →
-        Row (mapped field_words (fields_at c 0 t) l j) (w + 1) s s₁ (spot.Got d) →
-        Row (mapped type_words (type_entry_at c) l 0) w s s' (spot.Got record { pos = length l; word = d.word; value = u })
+        Row (mapped field_words (fields_at c 0 t) l j) (w + 1) s s₁ (Ok d) →
+        Row (mapped type_words (type_entry_at c) l 0) w s s' (Ok record { pos = length l; word = d.word; value = u })
     entry-got d u p h = entry-any d u (fields_at c 0 t l j) refl p h
 
 -- A row's words stand from w on.
-pub row-least : (g : Got (List ℕ)) (w : ℕ) (s s' : List ℕ) (d : Spot) → Row g w s s' (spot.Got d) → w ≤ d.word
-unfolding Row place_of
-row-least (got ws j) w s s' d h = omega (arith, got-value h.0)
-row-least (stop c k) w s s' d h = let n : ◌≡◌ {A = ℕ} 0 1 = cc h in let z : ⊥ = omega arith in absurd z
-
-pub row_told : (g : Got (List ℕ)) (w : ℕ) (s s' : List ℕ) {r x : SpotRead} → r ≡ x → Row g w s s' r → Row g w s s' x
-row_told g w s s' e h = subst (λ r. Row g w s s' r) e h
-
-pub within-told : (l : List ℕ) (i w n : ℕ) {r x : SpotRead} → r ≡ x → Within l i w n r → Within l i w n x
-within-told l i w n e h = subst (λ r. Within l i w n r) e h
-
-pub short-stop : (l : List ℕ) (w i v n : ℕ) (x : Refused) → Within l i v n (spot.Stop x) → Short l w (spot.Stop x)
-unfolding Short Within
-short-stop l w i v n x h = h
-
-pub within_first : (l : List ℕ) (i w n c : ℕ) → Within l i w n (spot.Stop record { no = c; at = 0 })
-unfolding Within
-within_first l i w n c = omega arith
-
-pub short-got : (l : List ℕ) (w j : ℕ) (d : Spot) (u : ℕ) → (0 < j) × (j ≤ length l) → Within l j (w + 1) 7 (spot.Got d) →
-    Short l w (spot.Got record { pos = length l; word = d.word; value = u })
-unfolding Short Within
-short-got l w j d u (a, b) x = (omega arith, omega (arith, x.0, x.1))
-
-pub entry-spare : (l : List ℕ) (w t j : ℕ) → w + 8 * length l ≤ 2 ^ 61 → got t j ≡ varint_at l 0 →
-    Spare l (record { pos = j; word = w + 1; value = t })
-unfolding Spare
-entry-spare l w t j h e = let m = varint-in l 0 t j e in (m.1, omega (arith, m.0, m.1))
+pub row-least : (g : Got (List ℕ)) (w : ℕ) (s s' : List ℕ) (d : Spot) → Row g w s s' (Ok d) → w ≤ d.word
+row-least g w s s' d h = let (ws, e, m, p) = row_put g w s s' d h in omega arith

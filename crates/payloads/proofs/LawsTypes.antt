@@ -1,6 +1,8 @@
 -- The words of a type's fields as the words of steps one after the other. Assumes nothing.
+use Rattle.std.specs.Prelude.{Result, Ok, Err}
+use Rattle.reading.specs.declared.Refused.{Refused}
 use mathlib.Core.Path.{◌≡◌, refl, sym, ap, ◌∙◌, subst}
-use Prim.Native.Nat.{ℕ, ◌+◌, ◌%◌, ◌^◌, ◌≤◌, ◌<◌}
+use Prim.Native.Nat.{ℕ, ◌+◌, ◌%◌, ◌≤◌}
 use native.Mathlib.Decide.{ℕ_discrete}
 use native.Mathlib.Omega.{arith}
 use mathlib.Core.Bool.{Bool, true, false, Bool-discrete}
@@ -13,6 +15,7 @@ use Rattle.exact.specs.Exact.{Parser}
 use Rattle.exact.specs.Basic.{byte, pure}
 use Rattle.exact.specs.Sequence.{bind, mapped}
 use Rattle.exact.specs.Repeat.{counted}
+use Rattle.exact.proofs.LawsExact.{stop-not-got}
 use Rattle.enums.specs.declared.VersionClass.{VersionClass}
 use Rattle.reading.specs.Numbers.{varint_at, counted_at}
 use Rattle.format.specs.Items.{truth}
@@ -38,11 +41,9 @@ use Rattle.sheet.specs.Store.{put_word, put_words}
 use Rattle.payloads.specs.declared.fields.Number.{Number}
 use Rattle.payloads.specs.declared.fields.Number.TheVariants.{Varint, I32, I64}
 use Rattle.payloads.specs.declared.fields.Spot.{Spot}
-use Rattle.payloads.specs.declared.fields.SpotRead.{SpotRead}
-use Rattle.payloads.specs.declared.fields.SpotRead.TheVariants as spot
-use Rattle.payloads.specs.Fields.{number_at, field_if, as_word, unput, listed, Put, Copied, Within, Grows, Room}
-use Rattle.payloads.specs.TypeRows.{place_of, Row, Spare}
-use Rattle.payloads.proofs.LawsFields.{map-got, map-stop, then}
+use Rattle.payloads.specs.Fields.{number_at, field_if, as_word, listed, spot_of, Put, Step}
+use Rattle.payloads.specs.TypeRows.{place_of, Row, Kind}
+use Rattle.payloads.proofs.LawsFields.{map-got, map-stop, then, step-then, step-stop, within-then, within-most}
 
 -- The words of p's rows are what `end` makes of the value of q, and of ws with the words of q behind.
 unfoldable pub Via : (ℕ × List ℕ → Parser (List ℕ)) → List ℕ → Parser TypeRow → Parser (ℕ × List ℕ) → Type 0
@@ -54,27 +55,27 @@ Says = Via (λ a. pure a.1)
 
 module _ {A : Type 0} (end : ℕ × List ℕ → Parser (List ℕ)) (g : A → ℕ × List ℕ) (p : Parser A) (ws : List ℕ) where
   module _ (f : A → Parser TypeRow) (q : ℕ → Parser (ℕ × List ℕ)) (l : List ℕ) (i : ℕ) where
-    step_both : (v : A) (j : ℕ) (a : Got (ℕ × List ℕ)) → p l i ≡ got v j → q (g v).0 l j ≡ a →
+    bind_both : (v : A) (j : ℕ) (a : Got (ℕ × List ℕ)) → p l i ≡ got v j → q (g v).0 l j ≡ a →
         mapped field_words (f v) l j ≡ bind (q (g v).0) (λ a. end (a.0, (ws ++ (g v).1) ++ a.1)) l j →
         mapped field_words (bind p f) l i ≡ bind (then (mapped g p) q) (λ a. end (a.0, ws ++ a.1)) l i
     unfolding mapped bind follow pure then
-    step_both v j (got b k) e d h = let m = rw d at h in rw (e, d) (m ∙ rw append_assoc)
-    step_both v j (stop c k) e d h = let m = rw d at h in rw (e, d) m
+    bind_both v j (got b k) e d h = let m = rw d at h in rw (e, d) (m ∙ rw append_assoc)
+    bind_both v j (stop c k) e d h = let m = rw d at h in rw (e, d) m
 
-    step-stop : (c k : ℕ) → p l i ≡ stop c k → mapped field_words (bind p f) l i ≡ bind (then (mapped g p) q) (λ a. end (a.0, ws ++ a.1)) l i
+    bind-none : (c k : ℕ) → p l i ≡ stop c k → mapped field_words (bind p f) l i ≡ bind (then (mapped g p) q) (λ a. end (a.0, ws ++ a.1)) l i
     unfolding mapped bind follow then
-    step-stop c k e = rw e
+    bind-none c k e = rw e
 
-    step-any : ((v : A) → Via end (ws ++ (g v).1) (f v) (q (g v).0)) → (a : Got A) → p l i ≡ a →
+    bind-any : ((v : A) → Via end (ws ++ (g v).1) (f v) (q (g v).0)) → (a : Got A) → p l i ≡ a →
         mapped field_words (bind p f) l i ≡ bind (then (mapped g p) q) (λ a. end (a.0, ws ++ a.1)) l i
     unfolding Via
-    step-any h (got v j) e = step_both v j (q (g v).0 l j) e refl (h v l j)
-    step-any h (stop c k) e = step-stop c k e
+    bind-any h (got v j) e = bind_both v j (q (g v).0 l j) e refl (h v l j)
+    bind-any h (stop c k) e = bind-none c k e
 
   via-step : (f : A → Parser TypeRow) (q : ℕ → Parser (ℕ × List ℕ)) → ((v : A) → Via end (ws ++ (g v).1) (f v) (q (g v).0)) →
       Via end ws (bind p f) (then (mapped g p) q)
   unfolding Via
-  via-step f q h l i = step-any f q l i h (p l i) refl
+  via-step f q h l i = bind-any f q l i h (p l i) refl
 
   last-any : (f : A → Parser TypeRow) → ((v : A) (l : List ℕ) (j : ℕ) → mapped field_words (f v) l j ≡ end ((g v).0, ws ++ (g v).1) l j) →
       (l : List ℕ) (i : ℕ) (a : Got A) → p l i ≡ a → mapped field_words (bind p f) l i ≡ bind (mapped g p) (λ a. end (a.0, ws ++ a.1)) l i
@@ -114,6 +115,12 @@ module _ (ws : List ℕ) where
       via-last (λ a. pure a.1) (λ vs. (length vs, length vs ∷ vs)) (counted varint_at (number_at k)) ws (λ vs. pure (f vs))
       (λ vs l j. ap (λ x. got x j) (h vs))
 
+-- A refusal is a row's.
+pub stopped : (r : Result Spot Refused) (c k : ℕ) → spot_of r ≡ stop c k → place_of r ≡ stop c k
+unfolding place_of
+stopped (Ok t) c k e = absurd (stop-not-got (sym e))
+stopped (Err x) c k e = cc
+
 -- Bit 0 of the flags, as it is tested.
 bit_test : (a b : ℕ) (p : Parser ℕ) (t : Bool) → t ≡ eqb a b → field_at (Bool-discrete t true) p ≡ field_at (ℕ_discrete a b) p
 unfolding field_at
@@ -138,12 +145,31 @@ pub flags-if : (c : VersionClass) (t : Bool) → t ≡ since13_4 c → field_if 
 unfolding field_if flags_at
 flags-if c t e = ap (λ t. field_at (Bool-discrete t true) varint_at) e
 
--- A byte by flags that are known.
-pub byte-told : (l : List ℕ) (from : SpotRead) (s s' : List ℕ) (r : SpotRead) {n m : ℕ} → n ≡ m → Copied (as_word (byte_if n)) l from s s' r →
-    Copied (as_word (byte_if m)) l from s s' r
-byte-told l from s s' r e h = subst (λ n. Copied (as_word (byte_if n)) l from s s' r) e h
+-- Steps one after the other, each of which may depend on the value of the one before.
+pub data Steps : Type 0 where
+  last : Parser (ℕ × List ℕ) → Steps
+  first : Parser (ℕ × List ℕ) → (ℕ → Steps) → Steps
 
-module _ (P : Parser TypeRow) (q : Parser (ℕ × List ℕ)) (t : ℕ) (says : Says (t ∷ []) P q) (l s s' : List ℕ) (i w : ℕ) (r : SpotRead) where
+abbrev pub run : Steps → Parser (ℕ × List ℕ)
+run (last p) = p
+run (first p q) = then p (λ v. run (q v))
+
+-- What they answer and leave.
+pub record Ran (n : ℕ) (x : Steps) (l : List ℕ) (t : Spot) (s s' : List ℕ) (r : Result Spot Refused) : Type 0 where
+  pub step : Step n (run x) l t s s' r
+
+module _ {l s : List ℕ} {n : ℕ} {t : Spot} {p : Parser (ℕ × List ℕ)} where
+  pub ran-last : {s' : List ℕ} {r : Result Spot Refused} → Step n p l t s s' r → Ran n (last p) l t s s' r
+  ran-last x = record { step = x }
+
+  pub ran_more : {q : ℕ → Steps} {m : ℕ} {s₁ s₂ : List ℕ} {u : Spot} {r : Result Spot Refused} → Step n p l t s s₁ (Ok u) →
+      Ran m (q u.value) l u s₁ s₂ r → Ran (n + m) (first p q) l t s s₂ r
+  ran_more {q} x y = record { step = step-then p (λ v. run (q v)) x y.step }
+
+  pub ran-stop : {q : ℕ → Steps} {s₁ s₂ : List ℕ} {x : Refused} → Step n p l t s s₁ (Err x) → Ran n (first p q) l t s s₂ (Err x)
+  ran-stop {q} x = record { step = step-stop p (λ v. run (q v)) x }
+
+module _ (P : Parser TypeRow) (q : Parser (ℕ × List ℕ)) (t : ℕ) (says : Says (t ∷ []) P q) (l s s' : List ℕ) (i w : ℕ) (r : Result Spot Refused) where
   row_any : (g : Got (ℕ × List ℕ)) → q l i ≡ g → Put g (w + 1) (put_word s w t) s' r → Row (mapped field_words P l i) w s s' r
   unfolding Put Row place_of put_words Via mapped pure
   row_any (got b k) e (x, y) =
@@ -152,51 +178,31 @@ module _ (P : Parser TypeRow) (q : Parser (ℕ × List ℕ)) (t : ℕ) (says : S
       subst (λ g. Row g w s s' r) (sym m) (ap place_of x ∙ ap (λ a. got a k) n, y)
   row_any (stop c k) e x =
       let m : mapped field_words P l i ≡ stop c k = says l i ∙ map-stop (λ b. (t ∷ []) ++ b.1) q l i c k e in
-      subst (λ g. Row g w s s' r) (sym m) (ap place_of x)
+      subst (λ g. Row g w s s' r) (sym m) (stopped r c k x)
 
--- A row is its tag and the words of its fields.
-pub row_of : (P : Parser TypeRow) (q : Parser (ℕ × List ℕ)) (t : ℕ) → Says (t ∷ []) P q → (l s s₀ s' : List ℕ) (at u : Spot) (r : SpotRead) →
-    u ≡ record { pos = at.pos; word = at.word + 1; value = t } → s₀ ≡ put_word s at.word t → Copied q l (spot.Got u) s₀ s' r →
-    Row (mapped field_words P l at.pos) at.word s s' r
-unfolding Copied
-row_of P q t says l s s₀ s' at u r e h x =
-    let y : Copied q l (spot.Got record { pos = at.pos; word = at.word + 1; value = t }) (put_word s at.word t) s' r =
-    subst (λ u. Copied q l (spot.Got u) (put_word s at.word t) s' r) e (subst (λ s₀. Copied q l (spot.Got u) s₀ s' r) h x) in
-    row_any P q t says l s s' at.pos at.word r (q l at.pos) refl y
-
--- The word index stays far from wrapping.
-pub spare-tag : (l : List ℕ) (at : Spot) → Spare l at → at.word + 1 < 2 ^ 64
-unfolding Spare
-spare-tag l at h = omega (arith, h.1)
-
-pub spare-room : (n : ℕ) (l : List ℕ) (at : Spot) (r : SpotRead) → n ≤ 7 → Spare l at → Within l at.pos at.word n r → Room l r
-unfolding Spare Within Room
-spare-room n l at (spot.Got t) h m x = (x.0, omega (arith, m.1, x.0, x.1))
-spare-room n l at (spot.Stop y) h m x = tt
-
-pub tag-within : (l : List ℕ) (at u : Spot) (v : ℕ) → u ≡ record { pos = at.pos; word = at.word + 1; value = v } → Spare l at →
-    Within l at.pos at.word 1 (spot.Got u)
-unfolding Spare Within
-tag-within l at u v e h =
-    let a = ap (λ t. t.pos) e in
-    let b = ap (λ t. t.word) e in
-    (omega (arith, h.0), omega arith)
-
-pub grow : (l : List ℕ) (i w n : ℕ) (from r : SpotRead) → Within l i w n from → Grows l from r → Within l i w (n + 1) r
-unfolding Grows
-grow l i w n from r x h = h i w n x
-
-pub within-most : (l : List ℕ) (i w n m : ℕ) (r : SpotRead) → n ≤ m → Within l i w n r → Within l i w m r
-unfolding Within
-within-most l i w n m (spot.Got t) h x = (x.0, omega (arith, x.1))
-within-most l i w n m (spot.Stop y) h x = x
+-- A kind's row is its tag and the words of its fields.
+pub kind_of : {P : Parser TypeRow} {x : Steps} {t : ℕ} → Says (t ∷ []) P (run x) → {n : ℕ} {l s s₀ s' : List ℕ} (at : Spot) {u : Spot} {r : Result Spot Refused} → n ≤ 6 →
+    u ≡ record { pos = at.pos; word = at.word + 1; value = t } → s₀ ≡ put_word s at.word t → Ran n x l u s₀ s' r →
+    Kind P l at s s' r
+kind_of {P} {x} {t} says {n} {l} {s} {s₀} {s'} at {u} {r} h e p y =
+    let a = ap (λ u. u.pos) e in
+    let b = ap (λ u. u.word) e in
+    let z = rw (a, b, p) at y.step.put in
+    record {
+      row = row_any P (run x) t says l s s' at.pos at.word r (run x l at.pos) refl z;
+      within = within-most l at.pos at.word (1 + n) 7 r (omega arith) (within-then l 1 n at.pos at.word u r (omega arith) y.step.within);
+    }
 
 -- The rows of partition views below 13.3: the presence stands before what is read before it.
 unfoldable pub old_end : ℕ × List ℕ → Parser (List ℕ)
 old_end a = mapped (λ u. tags.tag_partition_view ∷ a.0 ∷ (a.1 ++ (u ∷ []))) (field_at (ℕ_discrete a.0 1) varint_at)
 
-unfoldable pub old_steps : Parser (ℕ × List ℕ)
-old_steps = then (listed I32) (λ _. then (as_word varint_at) (λ _. then (listed I32) (λ _. unput (mapped truth byte))))
+-- A number that is read and not put.
+unfoldable pub unput : Parser ℕ → Parser (ℕ × List ℕ)
+unput p = mapped (λ v. (v, [])) p
+
+abbrev pub old_steps : Steps
+old_steps = first (listed I32) (λ _. first (as_word varint_at) (λ _. first (listed I32) (λ _. last (unput (mapped truth byte)))))
 
 old-last : (shape : List ℕ) (view : ℕ) (m : List ℕ) (presence : ℕ) (l : List ℕ) (j : ℕ) →
     (a : Got ℕ) → field_at (ℕ_discrete presence 1) varint_at l j ≡ a →
@@ -206,8 +212,8 @@ unfolding old_end mapped bind follow pure field_words
 old-last shape view m presence l j (got u k) e = rw e (ap (λ x. got (tags.tag_partition_view ∷ presence ∷ x) k) (simp (append_assoc, append-nil)))
 old-last shape view m presence l j (stop c k) e = rw e
 
-pub old-says : Via old_end [] old_partition_view_at old_steps
-unfolding old_partition_view_at old_steps counted_at number_at unput
+pub old-says : Via old_end [] old_partition_view_at (run old_steps)
+unfolding old_partition_view_at counted_at number_at unput
 old-says =
     says-list _ _ I32 _ _
     (λ shape. says-one _ _ _ _ _
@@ -216,30 +222,32 @@ old-says =
     (λ presence l j. old-last shape view m presence l j (field_at (ℕ_discrete presence 1) varint_at l j) refl))))
 
 -- The fields of each kind behind its tag.
-unfoldable pub pointer_steps : VersionClass → Parser (ℕ × List ℕ)
-pointer_steps c = then (as_word (flags_at c)) (λ flags. then (as_word varint_at) (λ _. as_word (byte_if flags)))
+abbrev pub pointer_steps : VersionClass → Steps
+pointer_steps c = first (as_word (flags_at c)) (λ flags. first (as_word varint_at) (λ _. last (as_word (byte_if flags))))
 
-pub pointer-says : (c : VersionClass) → Says (tags.tag_pointer ∷ []) (pointer_at c) (pointer_steps c)
-unfolding pointer_at pointer_steps counted_at indices_at number_at field_words
+pub pointer-says : (c : VersionClass) → Says (tags.tag_pointer ∷ []) (pointer_at c) (run (pointer_steps c))
+unfolding pointer_at counted_at indices_at number_at field_words
 pointer-says c =
     says-one _ _ _ _ _
     (λ flags. says-one _ _ _ _ _
     (λ element. ends-one _ _ _ (λ a. refl)))
 
-unfoldable pub tile_steps : Parser (ℕ × List ℕ)
-tile_steps = then (as_word varint_at) (λ _. listed I64)
+abbrev pub tile_steps : Steps
+tile_steps = first (as_word varint_at) (λ _. last (listed I64))
 
-pub tile-says : Says (tags.tag_tile ∷ []) tile_at tile_steps
-unfolding tile_at tile_steps counted_at indices_at number_at field_words
+pub tile-says : Says (tags.tag_tile ∷ []) tile_at (run tile_steps)
+unfolding tile_at counted_at indices_at number_at field_words
 tile-says =
     says-one _ _ _ _ _
     (λ element. ends-list _ I64 _ (λ dims. simp append_assoc))
 
-unfoldable pub tensor_view_steps : VersionClass → Parser (ℕ × List ℕ)
-tensor_view_steps c = then (as_word (flags_at c)) (λ flags. then (as_word varint_at) (λ _. then (listed I64) (λ _. then (listed I64) (λ _. as_word (byte_if flags)))))
+abbrev pub tensor_view_steps : VersionClass → Steps
+tensor_view_steps c =
+    first (as_word (flags_at c)) (λ flags.
+    first (as_word varint_at) (λ _. first (listed I64) (λ _. first (listed I64) (λ _. last (as_word (byte_if flags))))))
 
-pub tensor-view-says : (c : VersionClass) → Says (tags.tag_tensor_view ∷ []) (tensor_view_at c) (tensor_view_steps c)
-unfolding tensor_view_at tensor_view_steps counted_at indices_at number_at field_words
+pub tensor-view-says : (c : VersionClass) → Says (tags.tag_tensor_view ∷ []) (tensor_view_at c) (run (tensor_view_steps c))
+unfolding tensor_view_at counted_at indices_at number_at field_words
 tensor-view-says c =
     says-one _ _ _ _ _
     (λ flags. says-one _ _ _ _ _
@@ -247,11 +255,13 @@ tensor-view-says c =
     (λ shape. says-list _ _ I64 _ _
     (λ strides. ends-one _ _ _ (λ a. simp append_assoc)))))
 
-unfoldable pub partition_view_steps : Parser (ℕ × List ℕ)
-partition_view_steps = then (as_word varint_at) (λ flags. then (listed I32) (λ _. then (as_word varint_at) (λ _. then (listed I32) (λ _. as_word (byte_if flags)))))
+abbrev pub partition_view_steps : Steps
+partition_view_steps =
+    first (as_word varint_at) (λ flags.
+    first (listed I32) (λ _. first (as_word varint_at) (λ _. first (listed I32) (λ _. last (as_word (byte_if flags))))))
 
-pub partition-view-says : Says (tags.tag_partition_view ∷ []) partition_view_at partition_view_steps
-unfolding partition_view_at partition_view_steps counted_at indices_at number_at field_words
+pub partition-view-says : Says (tags.tag_partition_view ∷ []) partition_view_at (run partition_view_steps)
+unfolding partition_view_at counted_at indices_at number_at field_words
 partition-view-says =
     says-one _ _ _ _ _
     (λ flags. says-list _ _ I32 _ _
@@ -259,11 +269,13 @@ partition-view-says =
     (λ view. says-list _ _ I32 _ _
     (λ dims. ends-one _ _ _ (λ a. simp append_assoc)))))
 
-unfoldable pub gather_scatter_view_steps : Parser (ℕ × List ℕ)
-gather_scatter_view_steps = then (as_word varint_at) (λ flags. then (listed I32) (λ _. then (as_word varint_at) (λ _. then (as_word varint_at) (λ _. as_word (byte_if flags)))))
+abbrev pub gather_scatter_view_steps : Steps
+gather_scatter_view_steps =
+    first (as_word varint_at) (λ flags.
+    first (listed I32) (λ _. first (as_word varint_at) (λ _. first (as_word varint_at) (λ _. last (as_word (byte_if flags))))))
 
-pub gather-scatter-view-says : Says (tags.tag_gather_scatter_view ∷ []) gather_scatter_view_at gather_scatter_view_steps
-unfolding gather_scatter_view_at gather_scatter_view_steps counted_at indices_at number_at field_words
+pub gather-scatter-view-says : Says (tags.tag_gather_scatter_view ∷ []) gather_scatter_view_at (run gather_scatter_view_steps)
+unfolding gather_scatter_view_at counted_at indices_at number_at field_words
 gather-scatter-view-says =
     says-one _ _ _ _ _
     (λ flags. says-list _ _ I32 _ _
@@ -271,11 +283,13 @@ gather-scatter-view-says =
     (λ view. says-one _ _ _ _ _
     (λ sparse. ends-one _ _ _ (λ a. simp append_assoc)))))
 
-unfoldable pub strided_view_steps : Parser (ℕ × List ℕ)
-strided_view_steps = then (as_word varint_at) (λ flags. then (listed I32) (λ _. then (listed I32) (λ _. then (as_word varint_at) (λ _. then (listed I32) (λ _. as_word (byte_if flags))))))
+abbrev pub strided_view_steps : Steps
+strided_view_steps =
+    first (as_word varint_at) (λ flags.
+    first (listed I32) (λ _. first (listed I32) (λ _. first (as_word varint_at) (λ _. first (listed I32) (λ _. last (as_word (byte_if flags)))))))
 
-pub strided-view-says : Says (tags.tag_strided_view ∷ []) strided_view_at strided_view_steps
-unfolding strided_view_at strided_view_steps counted_at indices_at number_at field_words
+pub strided-view-says : Says (tags.tag_strided_view ∷ []) strided_view_at (run strided_view_steps)
+unfolding strided_view_at counted_at indices_at number_at field_words
 strided-view-says =
     says-one _ _ _ _ _
     (λ flags. says-list _ _ I32 _ _
@@ -284,11 +298,11 @@ strided-view-says =
     (λ view. says-list _ _ I32 _ _
     (λ dims. ends-one _ _ _ (λ a. simp append_assoc))))))
 
-unfoldable pub function_steps : Parser (ℕ × List ℕ)
-function_steps = then (listed Varint) (λ _. listed Varint)
+abbrev pub function_steps : Steps
+function_steps = first (listed Varint) (λ _. last (listed Varint))
 
-pub function-says : Says (tags.tag_func ∷ []) function_type_at function_steps
-unfolding function_type_at function_steps counted_at indices_at number_at field_words
+pub function-says : Says (tags.tag_func ∷ []) function_type_at (run function_steps)
+unfolding function_type_at counted_at indices_at number_at field_words
 function-says =
     says-list _ _ Varint _ _
     (λ inputs. ends-list _ Varint _ (λ results. simp append_assoc))

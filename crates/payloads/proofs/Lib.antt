@@ -1,3 +1,4 @@
+pub mod LawsRaised
 pub mod LawsFill
 pub mod LawsTables
 pub mod LawsFilling

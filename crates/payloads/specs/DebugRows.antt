@@ -1,21 +1,28 @@
 -- What the readers of Debug answer and leave in the sheet (document 01, "The sheet": attribute, tag and 6 fields; list,
 -- count and ids).
-use Rattle.std.specs.Prelude.{◌≡◌, ℕ, ◌+◌, List, ◌++◌, map, length}
+use Rattle.std.specs.Prelude.{◌≡◌, ℕ, ◌+◌, ◌-◌, List, ◌++◌, map, length, take, drop, Result, Ok, Err}
 use Rattle.std.proofs.Math.Option.{Option, none, some}
 use Rattle.exact.specs.Got.{Got, got, stop}
-use Rattle.exact.specs.Sequence.{bind}
-use Rattle.exact.specs.Tiling.{join, cuts}
-use Rattle.exact.specs.Entries.{rows}
+use Rattle.exact.specs.Sequence.{mapped}
+use Rattle.exact.specs.Tiling.{join}
+use Rattle.enums.specs.Numbered.{number_of}
 use Rattle.enums.specs.Refusals as refusals
+use Rattle.reading.specs.declared.Refused.{Refused}
 use Rattle.format.specs.Debug.{DebugTables}
-use Rattle.format.specs.DecodeDebug.{attribute_at, lists_at}
+use Rattle.format.specs.DecodeDebug.{attribute_at}
 use Rattle.format.specs.Sheet.{attribute_words, list_words}
 use Rattle.sheet.specs.Store.{put_words}
-use Rattle.entries.specs.Starts.{numbers_in}
-use Rattle.entries.specs.declared.starts.Starts.{Starts}
 use Rattle.payloads.specs.declared.answers.Filled.{Filled}
-use Rattle.payloads.specs.declared.debug.DebugRead.{DebugRead}
-use Rattle.payloads.specs.declared.debug.DebugRead.TheVariants as debug
+use Rattle.payloads.specs.declared.debug.DebugFilled.{DebugFilled}
+use Rattle.payloads.specs.declared.entry.Entry.{Entry}
+
+-- What one attribute in the bytes l reads: the words of its row.
+abbrev pub attribute_row : List ℕ → Got (List ℕ)
+attribute_row l = mapped attribute_words attribute_at l 0
+
+-- The bytes of an entry.
+abbrev pub bytes_of : Entry → List ℕ
+bytes_of e = take (e.end - e.start) (drop e.start e.table.now)
 
 -- The words of lists, if their bounds are good.
 unfoldable pub list_rows : ℕ → Option (List (List ℕ)) → Got (List ℕ)
@@ -26,20 +33,14 @@ list_rows j (some ls) = got (join (map list_words ls)) j
 unfoldable pub debug_words : DebugTables → List ℕ
 debug_words t = join (map attribute_words t.attributes) ++ join (map list_words t.lists)
 
--- The attributes that their starts cut, and then the lists that theirs cut out of the ids.
-abbrev pub debug_from : List ℕ → Starts → Starts → Starts → Got DebugTables
-debug_from l lists ids attributes =
-    bind (rows 0 refusals.bounds 1 attribute_at (numbers_in 4 l attributes))
-    (λ found. lists_at found (cuts (numbers_in 4 l lists) (numbers_in 8 l ids))) l attributes.data
-
 -- How many attributes and lists there are and how far the stores are filled; or a refusal and its place.
 pub data DebugCount : Type 0 where
   counted : (attributes lists words bytes : ℕ) → DebugCount
   refused : (number at : ℕ) → DebugCount
 
-abbrev pub debug_count : DebugRead → DebugCount
-debug_count (debug.Got m n f) = counted m n f.words f.bytes
-debug_count (debug.Stop r) = refused r.no r.at
+abbrev pub debug_count : Result DebugFilled Refused → DebugCount
+debug_count (Ok d) = counted d.attributes d.lists d.filled.words d.filled.bytes
+debug_count (Err x) = refused (number_of x.refusal) x.at
 
 -- What is answered of such tables, filled in behind what is filled already.
 abbrev pub debug_behind : Filled → Got DebugTables → DebugCount
@@ -48,6 +49,6 @@ debug_behind at (got t j) =
 debug_behind at (stop c k) = refused c k
 
 -- The reader's answer r to what the model reads, g; and the sheet, where it reads something.
-pub record DebugFills (at : Filled) (g : Got DebugTables) (sheet sheet' : List ℕ) (r : DebugRead) : Type 0 where
+pub record DebugFills (at : Filled) (g : Got DebugTables) (sheet sheet' : List ℕ) (r : Result DebugFilled Refused) : Type 0 where
   pub answer : debug_count r ≡ debug_behind at g
   pub words : (t : DebugTables) (j : ℕ) → g ≡ got t j → sheet' ≡ put_words sheet at.words (debug_words t)

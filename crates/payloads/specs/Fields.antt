@@ -33,10 +33,6 @@ field_if there p = field_at (Bool-discrete there true) p
 unfoldable pub as_word : Parser ℕ → Parser (ℕ × List ℕ)
 as_word p = mapped (λ v. (v, v ∷ [])) p
 
--- A number that is read and not put.
-unfoldable pub unput : Parser ℕ → Parser (ℕ × List ℕ)
-unput p = mapped (λ v. (v, [])) p
-
 -- A counted list is its count and a word for each number; the count is the value to go on with.
 unfoldable pub listed : Number → Parser (ℕ × List ℕ)
 listed k = mapped (λ vs. (length vs, counted_words vs)) (counted varint_at (number_at k))
@@ -49,11 +45,6 @@ several m n p = mapped (λ vs. (m, vs)) (times n p)
 unfoldable pub numbers : ℕ → ℕ → Number → Parser (ℕ × List ℕ)
 numbers m n k = several m n (number_at k)
 
--- The value to go on with.
-unfoldable pub value_of : Result Spot Refused → ℕ
-value_of (Ok t) = t.value
-value_of (Err x) = 0
-
 -- What a step answers: the value to go on with and the next word, behind the bytes that were read; or a refusal.
 abbrev pub spot_of : Result Spot Refused → Got (ℕ × ℕ)
 spot_of (Ok t) = got (t.value, t.word) t.pos
@@ -65,21 +56,20 @@ Put (got v j) w sheet sheet' r =
     (r ≡ Ok record { pos = j; word = w + length v.1; value = v.0 }) × (sheet' ≡ put_words sheet w v.1)
 Put (stop c k) w sheet sheet' r = spot_of r ≡ stop c k
 
--- A step by p from where the step before it has ended.
-unfoldable pub Copied : Parser (ℕ × List ℕ) → List ℕ → Result Spot Refused → List ℕ → List ℕ → Result Spot Refused → Type 0
-Copied p l (Ok t) sheet sheet' r = Put (p l t.pos) t.word sheet sheet' r
-Copied p l (Err x) sheet sheet' r = r ≡ Err x
-
 -- Since byte i and word w, at most n words more than bytes; a refusal names a place of the entry or its end.
-unfoldable pub Within : List ℕ → ℕ → ℕ → ℕ → Result Spot Refused → Type 0
+abbrev pub Within : List ℕ → ℕ → ℕ → ℕ → Result Spot Refused → Type 0
 Within l i w n (Ok t) = (t.pos ≤ length l) × (t.word + i ≤ w + t.pos + n)
 Within l i w n (Err x) = x.at ≤ length l
 
--- A step puts at most one word more than it reads bytes.
-unfoldable pub Grows : List ℕ → Result Spot Refused → Result Spot Refused → Type 0
-Grows l from r = (i w n : ℕ) → Within l i w n from → Within l i w (n + 1) r
+-- A step by p from the spot t: it puts at most n words more than it reads bytes.
+pub record Step (n : ℕ) (p : Parser (ℕ × List ℕ)) (l : List ℕ) (t : Spot) (sheet sheet' : List ℕ) (r : Result Spot Refused) : Type 0 where
+  pub put : Put (p l t.pos) t.word sheet sheet' r
+  pub within : Within l t.pos t.word n r
 
--- The word index stays far from wrapping while the rest of the entry is copied.
-unfoldable pub Room : List ℕ → Result Spot Refused → Type 0
-Room l (Ok t) = (t.pos ≤ length l) × (t.word + 2 * length l < 2 ^ 63)
-Room l (Err x) = Unit
+-- The word index stays far from wrapping while the rest of the entry is copied ..
+abbrev pub Room : List ℕ → Spot → Type 0
+Room l t = (t.pos ≤ length l) × (t.word + 2 * length l < 2 ^ 63)
+
+-- .. and while numbers of it are.
+abbrev pub Near : List ℕ → Spot → Type 0
+Near l t = (t.pos ≤ length l) × (t.word + length l ≤ 2 ^ 63)

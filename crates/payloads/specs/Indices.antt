@@ -1,9 +1,10 @@
 -- What the steps that copy a list of varints by blocks ask and answer: bytes by their top bits, numbers that have a
 -- known width, and an answer for some of the numbers.
-use Rattle.std.specs.Prelude.{◌≡◌, ℕ, zero, suc, ◌+◌, ◌-◌, ◌*◌, ◌/◌, ◌≤◌, ◌<◌, List, length, get_or}
+use Rattle.reading.specs.declared.Refused.{Refused}
+use Rattle.std.specs.Prelude.{◌≡◌, ℕ, zero, suc, ◌+◌, ◌-◌, ◌*◌, ◌/◌, ◌≤◌, ◌<◌, List, length, get_or, Result}
 use Rattle.payloads.specs.declared.fields.Number.TheVariants.{Varint}
-use Rattle.payloads.specs.declared.fields.SpotRead.{SpotRead}
-use Rattle.payloads.specs.Fields.{numbers, Put}
+use Rattle.payloads.specs.declared.fields.Spot.{Spot}
+use Rattle.payloads.specs.Fields.{numbers, Step}
 
 -- How many of n bytes have their top bit set: of the one at place i, and those behind it a step apart.
 unfoldable pub tops : ℕ → ℕ → List ℕ → ℕ → ℕ
@@ -23,8 +24,8 @@ abbrev pub Even : ℕ → ℕ → List ℕ → ℕ → Type 0
 Even width n l i = (k : ℕ) → k < n → Spans width l (i + k * width)
 
 -- The next numbers are copied, or refused: at least one, and at most sixteen.
-pub record Some (l : List ℕ) (i w : ℕ) (sheet sheet' : List ℕ) (r : SpotRead) : Type 0 where
+pub record Some (l : List ℕ) (t : Spot) (sheet sheet' : List ℕ) (r : Result Spot Refused) : Type 0 where
   pub count : ℕ
   pub some : 0 < count
   pub most : count ≤ 16
-  pub copied : Put (numbers count count Varint l i) w sheet sheet' r
+  pub step : Step 0 (numbers count count Varint) l t sheet sheet' r

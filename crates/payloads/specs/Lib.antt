@@ -1,3 +1,4 @@
+pub mod Answers
 pub mod Fill
 pub mod Tables
 pub mod Rows

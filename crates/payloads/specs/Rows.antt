@@ -1,6 +1,6 @@
 -- What the readers of Global and Func answer and leave in the stores (document 01, "The sheet": global, 6 words; function,
 -- name, signature, flags, location, body length).
-use Rattle.std.specs.Prelude.{ℕ, List, [], map, length}
+use Rattle.std.specs.Prelude.{ℕ, List, [], map, length, Result}
 use Rattle.exact.specs.Got.{Got, got, follow}
 use Rattle.exact.specs.Tiling.{join}
 use Rattle.exact.specs.Entries as table
@@ -10,14 +10,14 @@ use Rattle.format.specs.Sheet.{FunctionRow, function_row_of, global_words, funct
 use Rattle.entries.specs.declared.rows.FuncHead.{FuncHead}
 use Rattle.payloads.specs.Fill.{Rows, Fills}
 use Rattle.payloads.specs.declared.answers.Filled.{Filled}
-use Rattle.payloads.specs.declared.answers.TableRead.{TableRead}
+use Rattle.reading.specs.declared.Refused.{Refused}
 
 -- The rows of globals: six words each, and no run of bytes.
 unfoldable pub global_rows : Got (List Global) → Got Rows
 global_rows g = follow g (λ vs j. got (record { rows = length vs; words = join (map global_words vs); runs = [] }) j)
 
 -- No run of bytes is put: any pool stays as it is.
-abbrev pub FillsSheet : Filled → Got Rows → List ℕ → List ℕ → TableRead → Type 0
+abbrev pub FillsSheet : Filled → Got Rows → List ℕ → List ℕ → Result (ℕ × Filled) Refused → Type 0
 FillsSheet at g sheet sheet' r = (pool : List ℕ) → Fills at g sheet sheet' pool pool r
 
 -- The row of a function whose body has n bytes.

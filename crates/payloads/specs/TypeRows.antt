@@ -4,6 +4,7 @@ use Rattle.std.specs.Prelude.{◌≡◌, ℕ, ◌+◌, ◌*◌, ◌^◌, ◌≤�
 use Rattle.std.proofs.Math.Bool.{Bool-discrete}
 use Rattle.exact.specs.Got.{Got, got, stop, follow}
 use Rattle.exact.specs.Exact.{Parser}
+use Rattle.exact.specs.Sequence.{mapped}
 use Rattle.exact.specs.Choice.{choose}
 use Rattle.exact.specs.Tiling.{join}
 use Rattle.exact.specs.Entries.{entries_of}
@@ -11,12 +12,13 @@ use Rattle.enums.specs.Refusals as refusals
 use Rattle.enums.specs.declared.VersionClass.{VersionClass}
 use Rattle.enums.specs.Version.{since13_3}
 use Rattle.format.specs.Tables.{TypeRow}
-use Rattle.format.specs.Sheet.{type_words}
+use Rattle.format.specs.Sheet.{field_words, type_words}
 use Rattle.format.specs.DecodeTypes.{partition_view_at, old_partition_view_at}
 use Rattle.sheet.specs.Store.{put_words}
 use Rattle.entries.specs.Starts.{numbers_in}
 use Rattle.entries.specs.declared.starts.Starts.{Starts}
 use Rattle.payloads.specs.Fill.{Rows}
+use Rattle.payloads.specs.Fields.{Within}
 use Rattle.reading.specs.Shown.{stop_of}
 use Rattle.reading.specs.declared.Refused.{Refused}
 use Rattle.payloads.specs.declared.fields.Spot.{Spot}
@@ -32,11 +34,17 @@ Row (got ws j) w sheet sheet' r = (place_of r ≡ got (w + length ws) j) × (she
 Row (stop c k) w sheet sheet' r = place_of r ≡ stop c k
 
 -- The word index stays far from wrapping while an entry is read from here on.
-unfoldable pub Spare : List ℕ → Spot → Type 0
+abbrev pub Spare : List ℕ → Spot → Type 0
 Spare l t = (t.pos ≤ length l) × (t.word + 3 * length l + 8 < 2 ^ 63)
 
+-- What the reader of a kind's fields answers and leaves from the spot t on: the row of p, which has at most seven words
+-- more than bytes.
+pub record Kind (p : Parser TypeRow) (l : List ℕ) (t : Spot) (sheet sheet' : List ℕ) (r : Result Spot Refused) : Type 0 where
+  pub row : Row (mapped field_words p l t.pos) t.word sheet sheet' r
+  pub within : Within l t.pos t.word 7 r
+
 -- A row has at most eight words for each byte of its entry; a refusal names a place of the entry or its end.
-unfoldable pub Short : List ℕ → ℕ → Result Spot Refused → Type 0
+abbrev pub Short : List ℕ → ℕ → Result Spot Refused → Type 0
 Short l w (Ok t) = (t.pos ≤ length l) × (t.word ≤ w + 8 * length l)
 Short l w (Err x) = x.at ≤ length l
 

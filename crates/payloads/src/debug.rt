@@ -1,8 +1,7 @@
 // The Debug section: parse_debug_section of decoder.rs. All starts and ids are found first, then the attributes are read
 // one by one, and then the lists.
-ghost use Rattle.std.specs.Prelude.{◌≡◌, ℕ, ◌+◌, ◌-◌, ◌*◌, ◌^◌, ◌≤◌, ◌<◌, true, false, List, ◌∷◌, length, take, drop, replicate};
+ghost use Rattle.std.specs.Prelude.{◌≡◌, ℕ, ◌+◌, ◌-◌, ◌*◌, ◌^◌, ◌≤◌, ◌<◌, true, false, List, ◌∷◌, length, take, drop};
 ghost use Rattle.exact.specs.Got.{got};
-ghost use Rattle.exact.specs.Sequence.{mapped};
 ghost use Rattle.exact.specs.Repeat.{times};
 ghost use Rattle.exact.specs.Fixed.{nums};
 ghost use Rattle.exact.specs.Tiling.{cuts};
@@ -14,77 +13,54 @@ ghost use Rattle.entries.specs.Starts.{Lies, numbers_in};
 ghost use Rattle.payloads.specs.Shorts.{shorts};
 ghost use Rattle.payloads.specs.Fill.{Fits};
 ghost use Rattle.payloads.specs.TypeRows.{Row, words_of, entries_by};
-ghost use Rattle.payloads.specs.DebugRows.{list_rows, debug_from, DebugFills};
+ghost use Rattle.payloads.specs.DebugRows.{attribute_row, bytes_of, list_rows, DebugFills};
 
-use crate::answers::Filled;
-use crate::fields::{Number, Spot, SpotRead, copy_numbers, put_numbers, put_value};
-use entries::starts::{
-    EntryRead, ListRead, Starts, StartsRead, Width, first_entry, first_list, next_entry, next_list,
-    parse_array,
-};
+use crate::answers::{Filled, raised};
+use crate::entry::Entry;
+use crate::fields::{Number, Spot, copy_numbers, put_numbers, put_value};
+use crate::rows::put_row;
+use entries::starts::{Starts, Width, first_entry, first_list, next_entry, next_list, parse_array};
 use enums::{DebugTag, IdPosition, Refusal};
-use reading::{ByteRead, Reader, Refused};
+use reading::{Reader, Refused};
 
 // How many attributes and lists were read, and how far the stores are filled with them.
 #[derive(Clone, Copy)]
-pub enum DebugRead {
-    Got(usize, usize, Filled),
-    Stop(Refused),
+pub struct DebugFilled {
+    pub attributes: usize,
+    pub lists: usize,
+    pub filled: Filled,
 }
 
-// Words 0 for the fields that an attribute does not have.
-fn put_zeros(sheet: &mut [u8], at: usize, count: u64)
-    requires { at + count < 2 ^ 64 }
-    ensures { sheet.new ≡ put_words sheet.old at (replicate count 0) }
-{
-    let mut word = at;
-    let mut left = count;
-    while 0 < left {
-        sheet::put_word(sheet, word, 0);
-        word += 1;
-        left -= 1;
-    }
-}
+// What the reader of Debug answers.
+pub type DebugRead = Result<DebugFilled, Refused>;
 
-// An attribute as a row of seven words: its tag, and six fields.
-fn parse_attribute(entry: &[u8], sheet: &mut [u8], word: usize) -> SpotRead
+// An attribute as a row of seven words: its tag, and six fields, 0 for those that it does not have.
+fn parse_attribute(entry: &[u8], sheet: &mut [u8], word: usize) -> Result<Spot, Refused>
     requires { word + length «entry».now + 8 ≤ 2 ^ 62 }
-    ensures { Row (mapped attribute_words attribute_at «entry».now 0) word sheet.old sheet.new result }
+    ensures { Row (attribute_row «entry».now) word sheet.old sheet.new result }
 {
-    let reader = Reader { pos: 0 };
-    match reader.read_byte(entry) {
-        ByteRead::Stop(x) => SpotRead::Stop(x),
-        ByteRead::Got(tag, next) => {
-            if 7 <= tag {
-                return SpotRead::Stop(Refused {
-                    no: Refusal::DEBUG_TAG,
-                    at: 0,
-                });
-            }
-            let count = DebugTag::field_count(tag as u64);
-            let pos = next.pos;
-            let first = put_value(
-                sheet,
-                tag as u64,
-                Spot {
-                    pos,
-                    word,
-                    value: 0,
-                },
-            );
-            match copy_numbers(entry, Number::Varint, sheet, count, first) {
-                SpotRead::Stop(x) => SpotRead::Stop(x),
-                SpotRead::Got(last) => {
-                    put_zeros(sheet, last.word, 6 - count);
-                    SpotRead::Got(Spot {
-                        pos: entry.len(),
-                        word: word + 7,
-                        value: count,
-                    })
-                }
-            }
-        }
+    let (tag, next) = (Reader { pos: 0 }).read_byte(entry)?;
+    if 7 <= tag {
+        return Err(Refused {
+            refusal: Refusal::DebugTag,
+            at: 0,
+        });
     }
+    let count = DebugTag::field_count(tag as u64);
+    let begun = Spot {
+        pos: next.pos,
+        word,
+        value: 0,
+    };
+    let first = put_value(sheet, tag as u64, begun);
+    let last = copy_numbers(entry, Number::Varint, sheet, count, first)?;
+    let absent = [0; 6];
+    put_row(sheet, last.word, &absent[count as usize..]);
+    Ok(Spot {
+        pos: entry.len(),
+        word: word + 7,
+        value: count,
+    })
 }
 
 // In an attribute of at most so many bytes, the tag and ten more, no number can be too long.
@@ -100,23 +76,21 @@ fn ends_of(window: &[u8], size: u8) -> u8
 {
     let mut ends: u8 = 0;
     let mut left = size + 15;
-    let mut k: usize = 0;
-    while k < WINDOW {
-        ends += (left / 16 + (1 - window[k] / 128)) / 2;
+    for byte in window {
+        ends += (left / 16 + (1 - *byte / 128)) / 2;
         left -= 1;
-        k += 1;
     }
     ends
 }
 
 // Whether a short attribute has all of its numbers: it is enough to count the bytes that end one. The tag is one of
 // them. No says nothing: the attribute is then read.
-fn is_whole(data: &[u8], start: usize, end: usize) -> bool
-    requires start_lt_end { start < end }
-    requires end_in_bounds { end ≤ length «data».now }
-    ensures { result ≡ true → (ws : List ℕ) × (mapped attribute_words attribute_at (take (end - start) (drop start «data».now)) 0 ≡ got ws (end - start)) }
+fn is_whole(attribute: Entry) -> bool
+    ensures { result ≡ true → (ws : List ℕ) × (attribute_row (bytes_of attribute.entry) ≡ got ws (attribute.entry.end - attribute.entry.start)) }
 {
-    let size = end - start;
+    let data = attribute.table;
+    let start = attribute.start;
+    let size = attribute.end - start;
     if WINDOW < size {
         return false;
     }
@@ -148,8 +122,7 @@ fn short_fields(data: &[u8], from: usize, count: u64) -> Shorts
     let mut end = from;
     let mut long: u64 = 0;
     let mut words = [0u64; 6];
-    let mut k: usize = 0;
-    while k < 6 {
+    for (k, word) in words.iter_mut().enumerate() {
         let first = data[end] as u64;
         let second = data[end + 1] as u64;
         let more = first / 128;
@@ -160,8 +133,7 @@ fn short_fields(data: &[u8], from: usize, count: u64) -> Shorts
             long += high / 16384;
             end += 1 + more as usize;
         }
-        words[k] = value;
-        k += 1;
+        *word = value;
     }
     Shorts { end, long, words }
 }
@@ -172,22 +144,17 @@ fn put_attribute(sheet: &mut [u8], word: usize, tag: u64, fields: [u64; 6])
     ensures { sheet.new ≡ put_words sheet.old word (tag ∷ fields) }
 {
     sheet::put_word(sheet, word, tag);
-    let first = word + 1;
-    let mut k: usize = 0;
-    while k < 6 {
-        sheet::put_word(sheet, first + k, fields[k]);
-        k += 1;
-    }
+    put_row(sheet, word + 1, &fields);
 }
 
 // Puts an attribute whose numbers are all short. No says nothing, and that nothing is put: the attribute is then read.
-fn put_short(data: &[u8], start: usize, end: usize, sheet: &mut [u8], word: usize) -> bool
-    requires start_lt_end { start < end }
-    requires end_in_bounds { end ≤ length «data».now }
-    requires data_bound { word + length «data».now + 8 ≤ 2 ^ 62 }
-    ensures by_index { result ≡ true → (ws : List ℕ) × (mapped attribute_words attribute_at (take (end - start) (drop start «data».now)) 0 ≡ got ws (end - start)) × (length ws ≡ 7) × (sheet.new ≡ put_words sheet.old word ws) }
+fn put_short(attribute: Entry, sheet: &mut [u8], word: usize) -> bool
+    requires { word + length attribute.table.now + 8 ≤ 2 ^ 62 }
+    ensures row { result ≡ true → (ws : List ℕ) × (attribute_row (bytes_of attribute.entry) ≡ got ws (attribute.entry.end - attribute.entry.start)) × (length ws ≡ 7) × (sheet.new ≡ put_words sheet.old word ws) }
     ensures sheet_unchanged { result ≡ false → sheet.new ≡ sheet.old }
 {
+    let data = attribute.table;
+    let start = attribute.start;
     if data.len() - start < 13 {
         return false;
     }
@@ -197,78 +164,70 @@ fn put_short(data: &[u8], start: usize, end: usize, sheet: &mut [u8], word: usiz
     }
     let count = DebugTag::field_count(tag as u64);
     let fields = short_fields(data, start + 1, count);
-    if end < fields.end {
+    if attribute.end < fields.end {
         return false;
     }
     if 0 < fields.long {
         return false;
     }
-    let words = fields.words;
-    put_attribute(sheet, word, tag as u64, words);
+    put_attribute(sheet, word, tag as u64, fields.words);
     true
 }
 
 // An attribute that the sheet has no word for, as in the pass that measures, is only looked at; one of short numbers is
 // put at once; any other is read.
-fn any_attribute(data: &[u8], start: usize, end: usize, sheet: &mut [u8], word: usize) -> SpotRead
-    requires start_lt_end { start < end }
-    requires end_in_bounds { end ≤ length «data».now }
-    requires data_bound { word + length «data».now + 8 ≤ 2 ^ 62 }
-    ensures { Row (mapped attribute_words attribute_at (take (end - start) (drop start «data».now)) 0) word sheet.old sheet.new result }
+fn any_attribute(attribute: Entry, sheet: &mut [u8], word: usize) -> Result<Spot, Refused>
+    requires { word + length attribute.table.now + 8 ≤ 2 ^ 62 }
+    ensures { Row (attribute_row (bytes_of attribute.entry)) word sheet.old sheet.new result }
 {
-    let row = SpotRead::Got(Spot {
+    let start = attribute.start;
+    let end = attribute.end;
+    let row = Spot {
         pos: end - start,
         word: word + 7,
         value: 0,
-    });
+    };
     if sheet.len() / 8 <= word {
-        if is_whole(data, start, end) {
-            return row;
+        if is_whole(attribute) {
+            return Ok(row);
         }
-    } else if put_short(data, start, end, sheet, word) {
-        return row;
+    } else if put_short(attribute, sheet, word) {
+        return Ok(row);
     }
-    parse_attribute(&data[start..end], sheet, word)
+    parse_attribute(&attribute.table[start..end], sheet, word)
 }
 
 // Attribute by attribute: its bounds are judged, and after them its fields are read. None is empty.
-fn fill_attributes(payload: &[u8], attributes: Starts, sheet: &mut [u8], word: usize) -> SpotRead
-    requires lies { Lies 4 payload.now attributes }
+fn fill_attributes(
+    payload: &[u8],
+    attributes: Starts,
+    sheet: &mut [u8],
+    word: usize,
+) -> Result<Spot, Refused>
+    requires attributes_lie { Lies 4 payload.now attributes }
     requires payload_bound { word + 8 * length payload.now ≤ 2 ^ 60 }
     ensures { Row (words_of attribute_words (entries_by 1 attribute_at payload.now attributes)) word sheet.old sheet.new result }
 {
+    let count = attributes.count;
     let first = attributes.first;
     let base = attributes.data;
     let run = &payload[first..base];
     let data = &payload[base..];
     let mut next = word;
     let mut from = first_entry(run, Width::Four, data.len());
-    let mut left = attributes.count;
-    while 0 < left {
-        match next_entry(run, Width::Four, data.len(), 1, from) {
-            EntryRead::Stop(x) => {
-                return SpotRead::Stop(x);
-            }
-            EntryRead::Got(behind) => {
-                let start = from.start.0;
-                let end = behind.start.0;
-                match any_attribute(data, start, end, sheet, next) {
-                    SpotRead::Stop(x) => {
-                        return SpotRead::Stop(Refused {
-                            no: x.no,
-                            at: base + start + x.at,
-                        });
-                    }
-                    SpotRead::Got(row) => {
-                        next = row.word;
-                        from = behind;
-                        left -= 1;
-                    }
-                }
-            }
-        }
+    for _ in 0..count {
+        let behind = next_entry(run, Width::Four, data.len(), 1, from)?;
+        let start = from.start.0;
+        let entry = Entry {
+            table: data,
+            start,
+            end: behind.start.0,
+        };
+        let row = raised(any_attribute(entry, sheet, next), base + start)?;
+        next = row.word;
+        from = behind;
     }
-    SpotRead::Got(Spot {
+    Ok(Spot {
         pos: payload.len(),
         word: next,
         value: 0,
@@ -286,12 +245,19 @@ fn put_ids(ids: &[u8], sheet: &mut [u8], start: IdPosition, end: IdPosition, at:
 }
 
 // List by list: its bounds are judged, and its row is put: how many ids it has, and the ids.
-fn fill_lists(payload: &[u8], lists: Starts, ids: Starts, sheet: &mut [u8], at: Spot) -> SpotRead
-    requires lies { Lies 4 payload.now lists }
-    requires lies_2 { Lies 8 payload.now ids }
+fn fill_lists(
+    payload: &[u8],
+    lists: Starts,
+    ids: Starts,
+    sheet: &mut [u8],
+    at: Spot,
+) -> Result<Spot, Refused>
+    requires lists_lie { Lies 4 payload.now lists }
+    requires ids_lie { Lies 8 payload.now ids }
     requires payload_bound { at.word + 3 * length payload.now + 8 ≤ 2 ^ 62 }
     ensures { Row (list_rows at.pos (cuts (numbers_in 4 payload.now lists) (numbers_in 8 payload.now ids))) at.word sheet.old sheet.new result }
 {
+    let rows = lists.count;
     let first = lists.first;
     let base = lists.data;
     let run = &payload[first..base];
@@ -301,84 +267,39 @@ fn fill_lists(payload: &[u8], lists: Starts, ids: Starts, sheet: &mut [u8], at: 
     let numbers = &payload[first_id..last_id];
     let mut word = at.word;
     let mut from = first_list(run, count);
-    let mut left = lists.count;
-    while 0 < left {
-        match next_list(run, count, from) {
-            ListRead::Stop(x) => {
-                return SpotRead::Stop(x);
-            }
-            ListRead::Got(behind) => {
-                let start = from.start;
-                let end = behind.start;
-                let size = end.0 - start.0;
-                sheet::put_word(sheet, word, size as u64);
-                put_ids(numbers, sheet, start, end, word + 1);
-                word += size + 1;
-                from = behind;
-                left -= 1;
-            }
-        }
+    for _ in 0..rows {
+        let behind = next_list(run, count, from)?;
+        let start = from.start;
+        let end = behind.start;
+        let size = end.0 - start.0;
+        sheet::put_word(sheet, word, size as u64);
+        put_ids(numbers, sheet, start, end, word + 1);
+        word += size + 1;
+        from = behind;
     }
-    SpotRead::Got(Spot {
+    Ok(Spot {
         pos: at.pos,
         word,
         value: 0,
     })
 }
 
-// The attributes are judged before the lists.
-fn fill_debug(
-    payload: &[u8],
-    lists: Starts,
-    ids: Starts,
-    attributes: Starts,
-    sheet: &mut [u8],
-    at: Filled,
-) -> DebugRead
-    requires lies { Lies 4 payload.now lists }
-    requires lies_2 { Lies 8 payload.now ids }
-    requires lies_3 { Lies 4 payload.now attributes }
-    requires fits { Fits at payload.now }
-    ensures { DebugFills at (debug_from payload.now lists ids attributes) sheet.old sheet.new result }
-{
-    match fill_attributes(payload, attributes, sheet, at.words) {
-        SpotRead::Stop(x) => DebugRead::Stop(x),
-        SpotRead::Got(next) => match fill_lists(payload, lists, ids, sheet, next) {
-            SpotRead::Stop(x) => DebugRead::Stop(x),
-            SpotRead::Got(last) => DebugRead::Got(
-                attributes.count,
-                lists.count,
-                Filled {
-                    words: last.word,
-                    bytes: at.bytes,
-                },
-            ),
-        },
-    }
-}
-
+// All arrays come first. The attributes are judged before the lists.
 pub fn parse_debug_section(payload: &[u8], sheet: &mut [u8], at: Filled) -> DebugRead
     requires { Fits at payload.now }
     ensures { DebugFills at (debug_at payload.now 0) sheet.old sheet.new result }
 {
-    match parse_array(payload, Reader { pos: 0 }, Width::Four) {
-        StartsRead::Stop(x) => DebugRead::Stop(x),
-        StartsRead::Got(lists) => match parse_array(
-            payload,
-            Reader { pos: lists.data },
-            Width::Eight,
-        ) {
-            StartsRead::Stop(x) => DebugRead::Stop(x),
-            StartsRead::Got(ids) => match parse_array(
-                payload,
-                Reader { pos: ids.data },
-                Width::Four,
-            ) {
-                StartsRead::Stop(x) => DebugRead::Stop(x),
-                StartsRead::Got(attributes) => fill_debug(
-                    payload, lists, ids, attributes, sheet, at,
-                ),
-            },
+    let lists = parse_array(payload, Reader { pos: 0 }, Width::Four)?;
+    let ids = parse_array(payload, Reader { pos: lists.data }, Width::Eight)?;
+    let attributes = parse_array(payload, Reader { pos: ids.data }, Width::Four)?;
+    let next = fill_attributes(payload, attributes, sheet, at.words)?;
+    let last = fill_lists(payload, lists, ids, sheet, next)?;
+    Ok(DebugFilled {
+        attributes: attributes.count,
+        lists: lists.count,
+        filled: Filled {
+            words: last.word,
+            bytes: at.bytes,
         },
-    }
+    })
 }

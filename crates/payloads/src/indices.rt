@@ -1,14 +1,14 @@
 // The lists of indices of a function's type. Most indices have one byte each, or two: where the next sixteen bytes hold
 // such numbers alone, they are copied together.
-ghost use Rattle.std.specs.Prelude.{◌≡◌, ◌+◌, ◌*◌, ◌^◌, ◌≤◌, ◌<◌, length};
+ghost use Rattle.std.specs.Prelude.{◌≡◌, ◌+◌, ◌*◌, ◌^◌, ◌≤◌, ◌<◌, length, Ok};
 ghost use Rattle.exact.specs.Got.{got};
 ghost use Rattle.reading.specs.Numbers.{varint_at};
 ghost use Rattle.payloads.specs.declared.fields.Number.TheVariants.{Varint};
-ghost use Rattle.payloads.specs.declared.fields.SpotRead.TheVariants.{Got};
-ghost use Rattle.payloads.specs.Fields.{Room, Within, Grows, Put, Copied, numbers, value_of};
+ghost use Rattle.payloads.specs.Fields.{Room, Near, Step, listed, numbers};
 ghost use Rattle.payloads.specs.Indices.{tops, Spans, Even, Some};
 
-use crate::fields::{Number, Spot, SpotRead, copy_numbers};
+use crate::fields::{Number, Spot, copy_number, copy_numbers};
+use reading::Refused;
 
 // How many bytes of a list are looked at together.
 const BLOCK: usize = 16;
@@ -23,14 +23,10 @@ fn going_on(entry: &[u8], from: usize, step: usize, count: usize) -> usize
     ensures { result ≡ tops step count «entry».now from }
 {
     let mut n: u8 = 0;
-    let mut i = from;
-    let mut left = count;
-    while 0 < left {
-        n += entry[i] / 128;
-        i += step;
-        left -= 1;
+    for i in 0..count {
+        n += entry[from + i * step] / 128;
     }
-    n as usize
+    usize::from(n)
 }
 
 // A varint that is known to have `width` bytes, one or two.
@@ -38,96 +34,67 @@ fn short_varint(entry: &[u8], i: usize, width: usize) -> u64
     requires { Spans width «entry».now i }
     ensures { varint_at «entry».now i ≡ got result (i + width) }
 {
+    let first = u64::from(entry[i]);
     if width == 1 {
-        return entry[i] as u64;
+        return first;
     }
-    entry[i] as u64 % 128 + 128 * entry[i + 1] as u64
+    first % 128 + 128 * u64::from(entry[i + 1])
 }
 
 // Puts `count` numbers of `width` bytes each. A sheet that has no word for the first is left at once: a pass that
 // measures has nothing to put.
-fn put_block(entry: &[u8], width: usize, count: usize, sheet: &mut [u8], at: Spot) -> SpotRead
+fn put_block(entry: &[u8], width: usize, count: usize, sheet: &mut [u8], at: Spot) -> Spot
     requires width_in_bounds { (at.pos + count * width ≤ length «entry».now) × (at.word + count ≤ 2 ^ 63) }
     requires even { Even width count «entry».now at.pos }
-    ensures put { Put (numbers count count Varint «entry».now at.pos) at.word sheet.old sheet.new result }
-    ensures value { result ≡ Got record { pos = at.pos + count * width; word = at.word + count; value = count } }
+    ensures copied { Step 0 (numbers count count Varint) «entry».now at sheet.old sheet.new (Ok result) }
+    ensures value { result ≡ record { pos = at.pos + count * width; word = at.word + count; value = count } }
 {
     if at.word < sheet.len() / 8 {
-        let mut pos = at.pos;
-        let mut word = at.word;
-        let mut left = count;
-        while 0 < left {
-            sheet::put_word(sheet, word, short_varint(entry, pos, width));
-            word += 1;
-            pos += width;
-            left -= 1;
+        for i in 0..count {
+            let value = short_varint(entry, at.pos + i * width, width);
+            sheet::put_word(sheet, at.word + i, value);
         }
     }
-    SpotRead::Got(Spot {
+    Spot {
         pos: at.pos + count * width,
         word: at.word + count,
         value: count as u64,
-    })
+    }
 }
 
 // Copies the next numbers, one at least and sixteen at most: those of a block of one width together, and else one after
 // the other. The answer's value says how many.
-fn copy_block(entry: &[u8], sheet: &mut [u8], at: Spot) -> SpotRead
-    requires { (at.pos ≤ length «entry».now) × (at.word + length «entry».now ≤ 2 ^ 63) }
-    ensures some { Some «entry».now at.pos at.word sheet.old sheet.new result }
-    ensures within { Within «entry».now at.pos at.word 0 result }
+fn copy_block(entry: &[u8], sheet: &mut [u8], at: Spot) -> Result<Spot, Refused>
+    requires { Near «entry».now at }
+    ensures { Some «entry».now at sheet.old sheet.new result }
 {
     if BLOCK <= entry.len() - at.pos {
         let more = going_on(entry, at.pos, 1, BLOCK);
         if more == 0 {
-            return put_block(entry, 1, BLOCK, sheet, at);
+            return Ok(put_block(entry, 1, BLOCK, sheet, at));
         }
-        if more == PAIRS {
-            if going_on(entry, at.pos, 2, PAIRS) == PAIRS {
-                return put_block(entry, 2, PAIRS, sheet, at);
-            }
+        if more == PAIRS && going_on(entry, at.pos, 2, PAIRS) == PAIRS {
+            return Ok(put_block(entry, 2, PAIRS, sheet, at));
         }
     }
     copy_numbers(entry, Number::Varint, sheet, BLOCK as u64, at)
 }
 
-// Copies `count` varints, a block at a time while so many are left.
-fn copy_varints(entry: &[u8], sheet: &mut [u8], count: u64, at: Spot) -> SpotRead
-    requires { (at.pos ≤ length «entry».now) × (at.word + 2 * length «entry».now ≤ 2 ^ 63 + at.pos) }
-    ensures put { Put (numbers count count Varint «entry».now at.pos) at.word sheet.old sheet.new result }
-    ensures within { Within «entry».now at.pos at.word 0 result }
+// Copies a counted list of varints, a block at a time while so many are left.
+pub fn copy_indices(entry: &[u8], sheet: &mut [u8], at: Spot) -> Result<Spot, Refused>
+    requires { Room «entry».now at }
+    ensures { Step 1 (listed Varint) «entry».now at sheet.old sheet.new result }
 {
-    let mut next = at;
-    let mut left = count;
+    let count = copy_number(entry, sheet, at)?;
+    let mut next = count;
+    let mut left = count.value;
     while BLOCK as u64 <= left {
-        match copy_block(entry, sheet, next) {
-            SpotRead::Stop(x) => {
-                return SpotRead::Stop(x);
-            }
-            SpotRead::Got(behind) => {
-                left -= behind.value;
-                next = behind;
-            }
-        }
+        next = copy_block(entry, sheet, next)?;
+        left -= next.value;
     }
-    match copy_numbers(entry, Number::Varint, sheet, left, next) {
-        SpotRead::Stop(x) => SpotRead::Stop(x),
-        SpotRead::Got(last) => SpotRead::Got(Spot {
-            pos: last.pos,
-            word: last.word,
-            value: count,
-        }),
-    }
-}
-
-// Copies as many varints as the number says that was copied before them.
-pub fn copy_indices(entry: &[u8], sheet: &mut [u8], from: SpotRead) -> SpotRead
-    requires { Room «entry».now from }
-    ensures copied { Copied (numbers (value_of from) (value_of from) Varint) «entry».now from sheet.old sheet.new result }
-    ensures grows { Grows «entry».now from result }
-{
-    match from {
-        SpotRead::Stop(x) => SpotRead::Stop(x),
-        SpotRead::Got(at) => copy_varints(entry, sheet, at.value, at),
-    }
+    let last = copy_numbers(entry, Number::Varint, sheet, left, next)?;
+    Ok(Spot {
+        value: count.value,
+        ..last
+    })
 }

@@ -4,10 +4,12 @@
 
 mod answers;
 mod debug;
+mod entry;
 mod fields;
 mod indices;
 mod pass;
 mod rows;
+mod source;
 mod tables;
 mod types;
 
@@ -18,48 +20,35 @@ ghost use Rattle.payloads.specs.Whole.{file_read, need_of, Reads};
 
 use container::sections;
 use container::sections::Stopped;
-use enums::{Refusal, Stage};
+use enums::Refusal;
 use pass::fill;
+use source::Source;
 
 // How many words the sheet of a file has, and how many bytes its pool.
-#[derive(Clone, Copy)]
+#[derive(Clone, Copy, PartialEq, Eq)]
 pub struct Need {
     pub words: usize,
     pub bytes: usize,
 }
 
-#[derive(Clone, Copy)]
-pub enum FileRead {
-    Got(Need),
-    Stop(Stopped),
-}
-
 // How large the stores have to be: a pass over the file that is lent none.
-pub fn measure(file: &[u8]) -> FileRead
+pub fn measure(file: &[u8]) -> Result<Need, Stopped>
     ensures { file_read result ≡ map_read need_of (decode file.now) }
 {
-    let mut sheet: [u8; 0] = [];
-    let mut pool: [u8; 0] = [];
-    fill(file, sections::read_container(file), &mut sheet, &mut pool)
+    let container = sections::read_container(file)?;
+    fill(Source { file, container }, &mut [], &mut [])
 }
 
 // The tables of a file as a sheet and a pool. The first pass measures, on no store, so that a refused call has written
 // nothing; the second one fills. Header and sections are read once for both.
-pub fn read(file: &[u8], sheet: &mut [u8], pool: &mut [u8]) -> FileRead
+pub fn read(file: &[u8], sheet: &mut [u8], pool: &mut [u8]) -> Result<Need, Stopped>
     ensures { Reads file.now sheet.old sheet.new pool.old pool.new result }
 {
-    let container = sections::read_container(file);
-    match fill(file, container, &mut sheet[0..0], &mut pool[0..0]) {
-        FileRead::Stop(x) => FileRead::Stop(x),
-        FileRead::Got(need) => {
-            if sheet.len() / 8 < need.words || pool.len() < need.bytes {
-                return FileRead::Stop(Stopped {
-                    no: Refusal::FULL,
-                    stage: Stage::CALL,
-                    at: 0,
-                });
-            }
-            fill(file, container, sheet, pool)
-        }
+    let container = sections::read_container(file)?;
+    let source = Source { file, container };
+    let need = fill(source, &mut sheet[0..0], &mut pool[0..0])?;
+    if sheet.len() / 8 < need.words || pool.len() < need.bytes {
+        return Err(Stopped::call(Refusal::Full));
     }
+    fill(source, sheet, pool)
 }

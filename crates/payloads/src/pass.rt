@@ -1,10 +1,11 @@
-// One pass over the payloads of a file, in reading order. On empty stores it measures, and large enough ones it fills. Each
-// step takes what the step before it answered, so that a refusal is handed through.
-ghost use Rattle.std.specs.Prelude.{◌≡◌, ℕ, ◌+◌, ◌*◌, ◌<◌, ◌≤◌, List, [], ◌∷◌, length, get_or};
+// One pass over the payloads of a file, in reading order. On empty stores it measures, and large enough ones it fills.
+ghost use Rattle.std.specs.Prelude.{◌≡◌, ℕ, ◌+◌, ◌*◌, ◌<◌, List, [], ◌∷◌, length, get_or, Ok};
+ghost use Rattle.enums.specs.Numbered.{id_of};
+ghost use Rattle.enums.specs.declared.Section.TheVariants as section;
 ghost use Rattle.format.specs.Debug.{no_debug};
-ghost use Rattle.format.specs.Decode.{most_bytes};
 ghost use Rattle.format.specs.DecodeDebug.{debug_at};
-ghost use Rattle.container.specs.Container.{version_of, nowhere, opened, held_container};
+ghost use Rattle.format.specs.Explains.{class};
+ghost use Rattle.container.specs.Container.{version_of};
 ghost use Rattle.sheet.specs.Store.{put_words};
 ghost use Rattle.payloads.specs.Fill.{Fills, Fits};
 ghost use Rattle.payloads.specs.DebugRows.{DebugFills};
@@ -13,31 +14,30 @@ ghost use Rattle.payloads.specs.Pass.{
   no_rows,
   table_in,
   number_of,
+  section_of,
   stage_of,
-  payload_in,
-  Inside,
   in_place,
   Goes,
-  Roomy,
-  value_of,
-  with_table,
   with_producer,
   with_debug,
+  place_at,
+  table_step,
+  table_found,
+  word_found,
+  debug_found,
   head_words,
-  Passes,
 };
 
-use crate::answers::{Filled, TableRead};
-use crate::debug::{DebugRead, parse_debug_section};
-use crate::rows::{parse_func_section, parse_global_section};
+use crate::Need;
+use crate::answers::{Filled, TableRead, raised, staged};
+use crate::debug::{DebugFilled, DebugRead, parse_debug_section};
+use crate::rows::{parse_func_section, parse_global_section, put_row};
+use crate::source::Source;
 use crate::tables::{parse_constant_section, parse_string_section};
 use crate::types::parse_type_section;
-use crate::{FileRead, Need};
-use container::sections;
-use container::sections::{Container, Judged, SectionPlace, Stopped};
-use entries::rows::{ProducerRead, parse_producer};
+use container::sections::Stopped;
+use entries::rows::parse_producer;
 use enums::{BytecodeVersion, Section, Stage, VersionClass};
-use reading::Refused;
 
 // The tables that have a section of their own, in reading order.
 #[derive(Clone, Copy)]
@@ -49,47 +49,37 @@ pub enum Table {
     Functions,
 }
 
-// How far a pass has come: how far the stores are filled, and what the last step found besides: how many rows its table
-// has, or the producer's word.
-#[derive(Clone, Copy)]
-pub enum Pass {
-    Got(Filled, u64),
-    Stop(Stopped),
-}
-
-// What the last step found; nothing after a refusal.
-pub fn value_of(from: Pass) -> u64
-    ensures { result ≡ value_of from }
-{
-    match from {
-        Pass::Stop(_) => 0,
-        Pass::Got(_, value) => value,
+impl Table {
+    fn section(self) -> Section
+        ensures { result ≡ section_of self }
+    {
+        match self {
+            Table::Strings => Section::String,
+            Table::Types => Section::Type,
+            Table::Constants => Section::Constant,
+            Table::Globals => Section::Global,
+            Table::Functions => Section::Func,
+        }
     }
-}
 
-// The stage at which a table is read.
-fn stage_of(table: Table) -> u8
-    ensures { result ≡ stage_of table }
-{
-    match table {
-        Table::Strings => Stage::STRING,
-        Table::Types => Stage::TYPE,
-        Table::Constants => Stage::CONSTANT,
-        Table::Globals => Stage::GLOBAL,
-        Table::Functions => Stage::FUNC,
+    // The stage at which it is read.
+    fn stage(self) -> Stage
+        ensures { result ≡ stage_of self }
+    {
+        match self {
+            Table::Strings => Stage::String,
+            Table::Types => Stage::Type,
+            Table::Constants => Stage::Constant,
+            Table::Globals => Stage::Global,
+            Table::Functions => Stage::Func,
+        }
     }
-}
 
-// The word of the contents where a table's start word stands; its row count stands behind it.
-fn contents_of(table: Table) -> usize
-    ensures { result ≡ 5 + 2 * number_of table }
-{
-    match table {
-        Table::Strings => 5,
-        Table::Types => 7,
-        Table::Constants => 9,
-        Table::Globals => 11,
-        Table::Functions => 13,
+    // The word of the contents where its start word stands; its row count stands behind it.
+    fn contents(self) -> usize
+        ensures { result ≡ 5 + 2 * number_of self }
+    {
+        5 + 2 * self as usize
     }
 }
 
@@ -98,11 +88,11 @@ fn put_table(sheet: &mut [u8], contents: usize, start: usize, rows: usize)
     requires { contents < 19 }
     ensures { sheet.new ≡ put_words sheet.old contents (start ∷ rows ∷ []) }
 {
-    sheet::put_word(sheet, contents, start as u64);
-    sheet::put_word(sheet, contents + 1, rows as u64);
+    put_row(sheet, contents, &[start as u64, rows as u64]);
 }
 
 // A table by its own reader.
+#[tactic(auto, unfolding(crate::specs::Pass::table_in))]
 fn parse_table(
     table: Table,
     payload: &[u8],
@@ -126,199 +116,109 @@ fn parse_table(
 // An absent section is an empty table. The place of a refusal counts from the file's first byte.
 fn read_table(
     table: Table,
-    file: &[u8],
-    place: SectionPlace,
-    class: VersionClass,
+    source: Source,
     sheet: &mut [u8],
     pool: &mut [u8],
     at: Filled,
 ) -> TableRead
-    requires file_len_bound { length file.now ≤ most_bytes }
-    requires inside { Inside file.now place }
-    requires fits { Fits at (payload_in file.now place) }
-    ensures { Fills at (in_place file.now place (table_in table «class») no_rows) sheet.old sheet.new pool.old pool.new result }
+    requires { Fits at source.file.now }
+    ensures { Fills at (in_place source.entry.file.now (place_at source.entry.container (section_of table)) (table_in table (class (version_of source.entry.container.version))) no_rows) sheet.old sheet.new pool.old pool.new result }
 {
-    if !place.presence {
-        return TableRead::Got(0, at);
-    }
-    let start = place.start;
-    let end = start + place.len;
-    match parse_table(table, &file[start..end], class, sheet, pool, at) {
-        TableRead::Stop(x) => TableRead::Stop(Refused {
-            no: x.no,
-            at: start + x.at,
-        }),
-        TableRead::Got(rows, next) => TableRead::Got(rows, next),
+    match source.payload(table.section()) {
+        None => Ok((0, at)),
+        Some(payload) => raised(
+            parse_table(table, payload.bytes, source.class(), sheet, pool, at),
+            payload.start,
+        ),
     }
 }
 
 // One table more: its rows, and its start word and row count in the contents.
 fn fill_table(
     table: Table,
-    file: &[u8],
-    place: SectionPlace,
-    class: VersionClass,
+    source: Source,
     sheet: &mut [u8],
     pool: &mut [u8],
-    from: Pass,
-) -> Pass
-    requires file_len_bound { length file.now ≤ most_bytes }
-    requires inside { Inside file.now place }
-    requires roomy { Roomy file.now from }
-    ensures { Goes (number_of table) (number_of table + 1) (with_table (stage_of table) (in_place file.now place (table_in table «class») no_rows)) from sheet.old sheet.new pool.old pool.new result }
+    at: Filled,
+) -> Result<(usize, Filled), Stopped>
+    requires { Fits at source.file.now }
+    ensures { (n : ℕ) → Goes (number_of table) (number_of table + 1) (table_step source.entry.file.now source.entry.container table) (Ok (at, n)) sheet.old sheet.new pool.old pool.new (table_found result) }
 {
-    match from {
-        Pass::Stop(x) => Pass::Stop(x),
-        Pass::Got(at, _) => match read_table(table, file, place, class, sheet, pool, at) {
-            TableRead::Stop(x) => Pass::Stop(Stopped {
-                no: x.no,
-                stage: stage_of(table),
-                at: x.at,
-            }),
-            TableRead::Got(rows, next) => {
-                put_table(sheet, contents_of(table), at.words, rows);
-                Pass::Got(next, rows as u64)
-            }
-        },
-    }
+    let (rows, next) = staged(read_table(table, source, sheet, pool, at), table.stage())?;
+    put_table(sheet, table.contents(), at.words, rows);
+    Ok((rows, next))
 }
 
-// The producer's word: its index and 1, or 0 where none is named. The step before it has counted the strings.
-fn fill_producer(file: &[u8], place: SectionPlace, from: Pass) -> Pass
-    requires file_len_bound { length file.now ≤ most_bytes }
-    requires inside { Inside file.now place }
-    ensures { (s p : List ℕ) → Goes 1 1 (with_producer file.now place) from s s p p result }
+// The producer's word: its index and 1, or 0 where none is named. It is one of the strings, which have been counted.
+fn fill_producer(source: Source, strings: usize) -> Result<u64, Stopped>
+    ensures { (at : Filled) (s p : List ℕ) → Goes 1 1 (with_producer source.entry.file.now (place_at source.entry.container section.Producer)) (Ok (at, strings)) s s p p (word_found at result) }
 {
-    match from {
-        Pass::Stop(x) => Pass::Stop(x),
-        Pass::Got(at, strings) => {
-            if !place.presence {
-                return Pass::Got(at, 0);
-            }
-            let start = place.start;
-            let end = start + place.len;
-            match parse_producer(&file[start..end], strings as usize) {
-                ProducerRead::Stop(x) => Pass::Stop(Stopped {
-                    no: x.no,
-                    stage: Stage::PRODUCER,
-                    at: start + x.at,
-                }),
-                ProducerRead::Got(index) => Pass::Got(at, index + 1),
-            }
-        }
-    }
+    let Some(payload) = source.payload(Section::Producer) else {
+        return Ok(0);
+    };
+    let found = raised(parse_producer(payload.bytes, strings), payload.start);
+    let index = staged(found, Stage::Producer)?;
+    Ok(index + 1)
 }
 
 // The Debug section, as read_table reads a table.
-fn read_debug(file: &[u8], place: SectionPlace, sheet: &mut [u8], at: Filled) -> DebugRead
-    requires file_len_bound { length file.now ≤ most_bytes }
-    requires inside { Inside file.now place }
-    requires fits { Fits at (payload_in file.now place) }
-    ensures { DebugFills at (in_place file.now place (λ l. debug_at l 0) no_debug) sheet.old sheet.new result }
+fn read_debug(source: Source, sheet: &mut [u8], at: Filled) -> DebugRead
+    requires { Fits at source.file.now }
+    ensures { DebugFills at (in_place source.entry.file.now (place_at source.entry.container section.Debug) (λ l. debug_at l 0) no_debug) sheet.old sheet.new result }
 {
-    if !place.presence {
-        return DebugRead::Got(0, 0, at);
-    }
-    let start = place.start;
-    let end = start + place.len;
-    match parse_debug_section(&file[start..end], sheet, at) {
-        DebugRead::Stop(x) => DebugRead::Stop(Refused {
-            no: x.no,
-            at: start + x.at,
+    match source.payload(Section::Debug) {
+        None => Ok(DebugFilled {
+            attributes: 0,
+            lists: 0,
+            filled: at,
         }),
-        DebugRead::Got(attributes, lists, next) => DebugRead::Got(attributes, lists, next),
+        Some(payload) => raised(parse_debug_section(payload.bytes, sheet, at), payload.start),
     }
 }
 
 // Two tables more. The rows of attributes have seven words each, and those of the lists stand behind them.
-fn fill_debug(file: &[u8], place: SectionPlace, sheet: &mut [u8], from: Pass) -> Pass
-    requires file_len_bound { length file.now ≤ most_bytes }
-    requires inside { Inside file.now place }
-    requires roomy { Roomy file.now from }
-    ensures { (p : List ℕ) → Goes 5 7 (with_debug (in_place file.now place (λ l. debug_at l 0) no_debug)) from sheet.old sheet.new p p result }
+fn fill_debug(source: Source, sheet: &mut [u8], at: Filled) -> Result<Filled, Stopped>
+    requires { Fits at source.file.now }
+    ensures { (n : ℕ) (p : List ℕ) → Goes 5 7 (with_debug (in_place source.entry.file.now (place_at source.entry.container section.Debug) (λ l. debug_at l 0) no_debug)) (Ok (at, n)) sheet.old sheet.new p p (debug_found result) }
 {
-    match from {
-        Pass::Stop(x) => Pass::Stop(x),
-        Pass::Got(at, _) => match read_debug(file, place, sheet, at) {
-            DebugRead::Stop(x) => Pass::Stop(Stopped {
-                no: x.no,
-                stage: Stage::DEBUG,
-                at: x.at,
-            }),
-            DebugRead::Got(attributes, lists, next) => {
-                put_table(sheet, 15, at.words, attributes);
-                put_table(sheet, 17, at.words + attributes * 7, lists);
-                Pass::Got(next, 0)
-            }
-        },
-    }
+    let debug = staged(read_debug(source, sheet, at), Stage::Debug)?;
+    put_table(sheet, 15, at.words, debug.attributes);
+    put_table(sheet, 17, at.words + debug.attributes * 7, debug.lists);
+    Ok(debug.filled)
 }
 
 // Words 0 to 4.
 fn put_head(sheet: &mut [u8], version: BytecodeVersion, producer: u64, bytes: usize)
     ensures { sheet.new ≡ put_words sheet.old 0 (head_words (version_of version) producer bytes) }
 {
-    sheet::put_word(sheet, 0, version.major as u64);
-    sheet::put_word(sheet, 1, version.minor as u64);
-    sheet::put_word(sheet, 2, version.tag as u64);
-    sheet::put_word(sheet, 3, producer);
-    sheet::put_word(sheet, 4, bytes as u64);
+    let words = [
+        u64::from(version.major),
+        u64::from(version.minor),
+        u64::from(version.tag),
+        producer,
+        bytes as u64,
+    ];
+    put_row(sheet, 0, &words);
 }
 
-// The payloads at these places, in reading order, and then the words that only all of them give.
-fn fill_payloads(
-    file: &[u8],
-    version: BytecodeVersion,
-    places: [SectionPlace; 8],
-    sheet: &mut [u8],
-    pool: &mut [u8],
-) -> FileRead
-    requires file_len_bound { length file.now ≤ most_bytes }
-    requires by_index { (id : ℕ) → Inside file.now (get_or places id nowhere) }
-    ensures { Passes file.now (version_of version) places sheet.old sheet.new pool.old pool.new result }
+// The payloads of a file, in reading order, and then the words that only all of them give.
+pub fn fill(source: Source, sheet: &mut [u8], pool: &mut [u8]) -> Result<Need, Stopped>
+    ensures { PassPost source.entry.file.now sheet.old sheet.new pool.old pool.new result }
 {
-    let class = version.class();
-    let begun = Pass::Got(
-        Filled {
-            words: 19,
-            bytes: 0,
-        },
-        0,
-    );
-    let string = sections::get(places, Section::STRING as u64);
-    let strings = fill_table(Table::Strings, file, string, class, sheet, pool, begun);
-    let name = sections::get(places, Section::PRODUCER as u64);
-    let producer = fill_producer(file, name, strings);
-    let ty = sections::get(places, Section::TYPE as u64);
-    let types = fill_table(Table::Types, file, ty, class, sheet, pool, producer);
-    let constant = sections::get(places, Section::CONSTANT as u64);
-    let constants = fill_table(Table::Constants, file, constant, class, sheet, pool, types);
-    let global = sections::get(places, Section::GLOBAL as u64);
-    let globals = fill_table(Table::Globals, file, global, class, sheet, pool, constants);
-    let func = sections::get(places, Section::FUNC as u64);
-    let functions = fill_table(Table::Functions, file, func, class, sheet, pool, globals);
-    let debug = sections::get(places, Section::DEBUG as u64);
-    match fill_debug(file, debug, sheet, functions) {
-        Pass::Stop(x) => FileRead::Stop(x),
-        Pass::Got(end, _) => {
-            put_head(sheet, version, value_of(producer), end.bytes);
-            FileRead::Got(Need {
-                words: end.words,
-                bytes: end.bytes,
-            })
-        }
-    }
-}
-
-// A pass over the whole file, of which header and sections were read before.
-pub fn fill(file: &[u8], container: Container, sheet: &mut [u8], pool: &mut [u8]) -> FileRead
-    requires { container ≡ held_container (opened file.now) }
-    ensures { PassPost file.now sheet.old sheet.new pool.old pool.new result }
-{
-    let judged = container.judged;
-    let places = container.places;
-    match judged {
-        Judged::Stop(x) => FileRead::Stop(x),
-        Judged::Passed => { fill_payloads(file, container.version, places, sheet, pool) }
-    }
+    let begun = Filled {
+        words: 19,
+        bytes: 0,
+    };
+    let (strings, named) = fill_table(Table::Strings, source, sheet, pool, begun)?;
+    let producer = fill_producer(source, strings)?;
+    let (_, types) = fill_table(Table::Types, source, sheet, pool, named)?;
+    let (_, constants) = fill_table(Table::Constants, source, sheet, pool, types)?;
+    let (_, globals) = fill_table(Table::Globals, source, sheet, pool, constants)?;
+    let (_, functions) = fill_table(Table::Functions, source, sheet, pool, globals)?;
+    let end = fill_debug(source, sheet, functions)?;
+    put_head(sheet, source.container.version, producer, end.bytes);
+    Ok(Need {
+        words: end.words,
+        bytes: end.bytes,
+    })
 }

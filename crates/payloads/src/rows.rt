@@ -10,20 +10,34 @@ ghost use Rattle.payloads.specs.Fill.{Fills, Fits};
 ghost use Rattle.payloads.specs.Rows.{global_rows, FillsSheet, row_of, located_rows, function_rows};
 
 use crate::answers::{Filled, TableRead};
-use entries::rows::{FuncHead, FuncRead, GlobalRead, GlobalRow, read_func, read_global};
+use entries::rows::{FuncHead, GlobalRow, read_func, read_global};
 use enums::VersionClass;
-use reading::{NumRead, Reader};
+use reading::Reader;
 
+// The words of a row, one behind the other.
+pub fn put_row(sheet: &mut [u8], at: usize, row: &[u64])
+    requires { at + length row.now < 2 ^ 64 }
+    ensures { sheet.new ≡ put_words sheet.old at row.now }
+{
+    for (k, word) in row.iter().enumerate() {
+        sheet::put_word(sheet, at + k, *word);
+    }
+}
+
+#[tactic(auto, unfolding(format::specs::Sheet::global_words))]
 fn put_global(sheet: &mut [u8], word: usize, row: GlobalRow)
     requires { word + 6 < 2 ^ 64 }
     ensures { sheet.new ≡ put_words sheet.old word (global_words (global_of row)) }
 {
-    sheet::put_word(sheet, word, row.name_idx);
-    sheet::put_word(sheet, word + 1, row.type_idx);
-    sheet::put_word(sheet, word + 2, row.const_idx);
-    sheet::put_word(sheet, word + 3, row.alignment);
-    sheet::put_word(sheet, word + 4, row.linkage.visibility as u64);
-    sheet::put_word(sheet, word + 5, row.linkage.constant);
+    let words = [
+        row.name_idx,
+        row.type_idx,
+        row.const_idx,
+        row.alignment,
+        u64::from(row.linkage.visibility),
+        row.linkage.constant,
+    ];
+    put_row(sheet, word, &words);
 }
 
 // Row by row: six words of the sheet for each.
@@ -41,27 +55,14 @@ fn fill_globals(
 {
     let mut reader = first;
     let mut words = at.words;
-    let mut left = count;
-    while 0 < left {
-        match read_global(payload, class, reader) {
-            GlobalRead::Stop(x) => {
-                return TableRead::Stop(x);
-            }
-            GlobalRead::Got(row, next) => {
-                put_global(sheet, words, row);
-                words += 6;
-                reader = next;
-                left -= 1;
-            }
-        }
+    for _ in 0..count {
+        let (row, next) = read_global(payload, class, reader)?;
+        put_global(sheet, words, row);
+        words += 6;
+        reader = next;
     }
-    TableRead::Got(
-        count as usize,
-        Filled {
-            words,
-            bytes: at.bytes,
-        },
-    )
+    let bytes = at.bytes;
+    Ok((count as usize, Filled { words, bytes }))
 }
 
 // A global has no run of bytes: the pool is not lent, and stays as it is.
@@ -74,22 +75,23 @@ pub fn parse_global_section(
     requires { Fits at payload.now }
     ensures { FillsSheet at (global_rows (globals_at «class» 0 payload.now 0)) sheet.old sheet.new result }
 {
-    let reader = Reader { pos: 0 };
-    match reader.read_varint(payload) {
-        NumRead::Stop(x) => TableRead::Stop(x),
-        NumRead::Got(count, first) => fill_globals(payload, class, first, count, sheet, at),
-    }
+    let (count, first) = (Reader { pos: 0 }).read_varint(payload)?;
+    fill_globals(payload, class, first, count, sheet, at)
 }
 
+#[tactic(auto, unfolding(format::specs::Sheet::function_words))]
 fn put_func(sheet: &mut [u8], word: usize, head: FuncHead, body_len: usize)
     requires { word + 5 < 2 ^ 64 }
     ensures { sheet.new ≡ put_words sheet.old word (function_words (row_of head body_len)) }
 {
-    sheet::put_word(sheet, word, head.name_idx);
-    sheet::put_word(sheet, word + 1, head.sig_idx);
-    sheet::put_word(sheet, word + 2, head.flags as u64);
-    sheet::put_word(sheet, word + 3, head.loc_idx);
-    sheet::put_word(sheet, word + 4, body_len as u64);
+    let words = [
+        head.name_idx,
+        head.sig_idx,
+        u64::from(head.flags),
+        head.loc_idx,
+        body_len as u64,
+    ];
+    put_row(sheet, word, &words);
 }
 
 // Row by row: five words of the sheet, and the body in the pool.
@@ -108,25 +110,16 @@ fn fill_funcs(
     let mut reader = first;
     let mut words = at.words;
     let mut bytes = at.bytes;
-    let mut left = count;
-    while 0 < left {
-        match read_func(payload, reader) {
-            FuncRead::Stop(x) => {
-                return TableRead::Stop(x);
-            }
-            FuncRead::Got(row, next) => {
-                let start = row.body;
-                let end = next.pos;
-                put_func(sheet, words, row.head, end - start);
-                sheet::put_run(pool, bytes, &payload[start..end]);
-                words += 5;
-                bytes += end - start;
-                reader = next;
-                left -= 1;
-            }
-        }
+    for _ in 0..count {
+        let (row, next) = read_func(payload, reader)?;
+        let body = &payload[row.body..next.pos];
+        put_func(sheet, words, row.head, body.len());
+        sheet::put_run(pool, bytes, body);
+        words += 5;
+        bytes += body.len();
+        reader = next;
     }
-    TableRead::Got(count as usize, Filled { words, bytes })
+    Ok((count as usize, Filled { words, bytes }))
 }
 
 pub fn parse_func_section(
@@ -138,9 +131,6 @@ pub fn parse_func_section(
     requires { Fits at payload.now }
     ensures { Fills at (function_rows (functions_at 0 payload.now 0)) sheet.old sheet.new pool.old pool.new result }
 {
-    let reader = Reader { pos: 0 };
-    match reader.read_varint(payload) {
-        NumRead::Stop(x) => TableRead::Stop(x),
-        NumRead::Got(count, first) => fill_funcs(payload, first, count, sheet, pool, at),
-    }
+    let (count, first) = (Reader { pos: 0 }).read_varint(payload)?;
+    fill_funcs(payload, first, count, sheet, pool, at)
 }

@@ -8,9 +8,7 @@ ghost use Rattle.payloads.specs.Fill.{Fills, Fits};
 ghost use Rattle.payloads.specs.Tables.{filling};
 
 use crate::answers::{Filled, TableRead};
-use entries::starts::{
-    EntryRead, Starts, StartsRead, Width, first_entry, next_entry, parse_starts,
-};
+use entries::starts::{Starts, Width, first_entry, next_entry, parse_starts};
 
 // Entry by entry: its bounds are judged, its length goes to the sheet and its bytes to the pool.
 fn fill_entries(
@@ -33,25 +31,16 @@ fn fill_entries(
     let mut words = at.words;
     let mut bytes = at.bytes;
     let mut from = first_entry(run, width, data.len());
-    let mut left = count;
-    while 0 < left {
-        match next_entry(run, width, data.len(), 0, from) {
-            EntryRead::Stop(x) => {
-                return TableRead::Stop(x);
-            }
-            EntryRead::Got(next) => {
-                let start = from.start.0;
-                let end = next.start.0;
-                sheet::put_word(sheet, words, (end - start) as u64);
-                sheet::put_run(pool, bytes, &data[start..end]);
-                words += 1;
-                bytes += end - start;
-                from = next;
-                left -= 1;
-            }
-        }
+    for _ in 0..count {
+        let next = next_entry(run, width, data.len(), 0, from)?;
+        let entry = &data[from.start.0..next.start.0];
+        sheet::put_word(sheet, words, entry.len() as u64);
+        sheet::put_run(pool, bytes, entry);
+        words += 1;
+        bytes += entry.len();
+        from = next;
     }
-    TableRead::Got(count, Filled { words, bytes })
+    Ok((count, Filled { words, bytes }))
 }
 
 // The entries of a table stand one behind the other, from the first one's start to the end of the data: where the pool
@@ -75,14 +64,10 @@ fn fill_at_once(
     if pool.len() < at.bytes || pool.len() - at.bytes < data.len() {
         return fill_entries(payload, starts, width, sheet, pool, at);
     }
-    match fill_entries(payload, starts, width, sheet, &mut pool[0..0], at) {
-        TableRead::Stop(x) => TableRead::Stop(x),
-        TableRead::Got(rows, filled) => {
-            let front = first_entry(run, width, data.len()).start.0;
-            sheet::put_long_run(pool, at.bytes, &data[front..]);
-            TableRead::Got(rows, filled)
-        }
-    }
+    let (rows, filled) = fill_entries(payload, starts, width, sheet, &mut pool[0..0], at)?;
+    let front = first_entry(run, width, data.len()).start.0;
+    sheet::put_long_run(pool, at.bytes, &data[front..]);
+    Ok((rows, filled))
 }
 
 fn parse_offset_table(
@@ -95,12 +80,11 @@ fn parse_offset_table(
     requires { Fits at payload.now }
     ensures { Fills at (filling (offset_table_at (wide width) (wide width) 0 whole payload.now 0)) sheet.old sheet.new pool.old pool.new result }
 {
-    match parse_starts(payload, width) {
-        StartsRead::Stop(x) => TableRead::Stop(x),
-        StartsRead::Got(starts) => fill_at_once(payload, starts, width, sheet, pool, at),
-    }
+    let starts = parse_starts(payload, width)?;
+    fill_at_once(payload, starts, width, sheet, pool, at)
 }
 
+#[tactic(auto, unfolding(format::specs::DecodeTables::strings_at))]
 pub fn parse_string_section(
     payload: &[u8],
     sheet: &mut [u8],
@@ -113,6 +97,7 @@ pub fn parse_string_section(
     parse_offset_table(payload, Width::Four, sheet, pool, at)
 }
 
+#[tactic(auto, unfolding(format::specs::DecodeTables::constants_at))]
 pub fn parse_constant_section(
     payload: &[u8],
     sheet: &mut [u8],

@@ -1,159 +1,149 @@
 // The Type section: parse_type_section and decode_type_entry of decoder.rs. Each entry becomes a row of the sheet: the
 // number of words that follow, the tag, and the fields in wire order with counts before lists.
-ghost use Rattle.std.specs.Prelude.{ℕ, ◌+◌, ◌*◌, ◌^◌, ◌≤◌, length, List, []};
-ghost use Rattle.exact.specs.Sequence.{mapped};
-ghost use Rattle.format.specs.Sheet.{field_words, type_words};
-ghost use Rattle.format.specs.DecodeTypes.{pointer_at, tile_at, tensor_view_at, partition_view_at, old_partition_view_at, gather_scatter_view_at, strided_view_at, function_type_at, fields_at, type_entry_at, types_at};
+ghost use Rattle.std.specs.Prelude.{◌≡◌, ◌+◌, ◌*◌, ◌^◌, ◌≤◌, length, []};
 ghost use Rattle.exact.specs.Basic.{byte};
+ghost use Rattle.exact.specs.Sequence.{mapped};
+ghost use Rattle.reading.specs.Shown.{got_of};
+ghost use Rattle.format.specs.Sheet.{type_words};
+ghost use Rattle.format.specs.DecodeTypes.{pointer_at, tile_at, tensor_view_at, partition_view_at, old_partition_view_at, gather_scatter_view_at, strided_view_at, function_type_at, fields_at, type_entry_at, types_at};
 ghost use Rattle.format.specs.Items.{truth};
 ghost use Rattle.entries.specs.Starts.{Lies};
-ghost use Rattle.payloads.specs.Fields.{Within, Grows, Copied, unput};
-ghost use Rattle.payloads.specs.TypeRows.{partition_at, Row, Spare, Short, words_of, entries_by, type_rows};
+ghost use Rattle.payloads.specs.TypeRows.{partition_at, Row, Kind, Spare, Short, words_of, entries_by, type_rows};
 ghost use Rattle.payloads.specs.Fill.{Fits, Fills};
 
 use crate::answers::{Filled, TableRead};
 use crate::fields::{
-    Number, Spot, SpotRead, copy_byte_if, copy_field, copy_flags, copy_list, copy_number,
-    put_value, value_of,
+    Number, Spot, copy_byte_if, copy_flags, copy_list, copy_number, copy_number_if, put_value,
 };
 use crate::indices::copy_indices;
-use entries::starts::{
-    EntryRead, Starts, StartsRead, Width, first_entry, next_entry, parse_starts,
-};
+use entries::starts::{Starts, Width, first_entry, next_entry, parse_starts};
 use enums::{Refusal, TypeTag, VersionClass};
-use reading::{ByteRead, NumRead, Reader, Refused};
+use reading::{Read, Reader, Refused};
 
 // One reader for each kind: the tag, and the fields behind it.
-fn pointer(entry: &[u8], class: VersionClass, sheet: &mut [u8], at: Spot) -> SpotRead
+fn pointer(entry: &[u8], class: VersionClass, sheet: &mut [u8], at: Spot) -> Result<Spot, Refused>
     requires { Spare «entry».now at }
-    ensures row { Row (mapped field_words (pointer_at «class») «entry».now at.pos) at.word sheet.old sheet.new result }
-    ensures within { Within «entry».now at.pos at.word 7 result }
+    ensures { Kind (pointer_at «class») «entry».now at sheet.old sheet.new result }
 {
-    let tag = SpotRead::Got(put_value(sheet, TypeTag::POINTER as u64, at));
-    let flags = copy_flags(entry, class, sheet, tag);
-    let element = copy_number(entry, sheet, flags);
-    copy_byte_if(entry, value_of(flags), sheet, element)
+    let tag = put_value(sheet, TypeTag::POINTER as u64, at);
+    let flags = copy_flags(entry, class, sheet, tag)?;
+    let element = copy_number(entry, sheet, flags)?;
+    copy_byte_if(entry, flags.value, sheet, element)
 }
 
-fn tile(entry: &[u8], sheet: &mut [u8], at: Spot) -> SpotRead
+fn tile(entry: &[u8], sheet: &mut [u8], at: Spot) -> Result<Spot, Refused>
     requires { Spare «entry».now at }
-    ensures row { Row (mapped field_words tile_at «entry».now at.pos) at.word sheet.old sheet.new result }
-    ensures within { Within «entry».now at.pos at.word 7 result }
+    ensures { Kind tile_at «entry».now at sheet.old sheet.new result }
 {
-    let tag = SpotRead::Got(put_value(sheet, TypeTag::TILE as u64, at));
-    let element = copy_number(entry, sheet, tag);
+    let tag = put_value(sheet, TypeTag::TILE as u64, at);
+    let element = copy_number(entry, sheet, tag)?;
     copy_list(entry, Number::I64, sheet, element)
 }
 
-fn tensor_view(entry: &[u8], class: VersionClass, sheet: &mut [u8], at: Spot) -> SpotRead
+fn tensor_view(
+    entry: &[u8],
+    class: VersionClass,
+    sheet: &mut [u8],
+    at: Spot,
+) -> Result<Spot, Refused>
     requires { Spare «entry».now at }
-    ensures row { Row (mapped field_words (tensor_view_at «class») «entry».now at.pos) at.word sheet.old sheet.new result }
-    ensures within { Within «entry».now at.pos at.word 7 result }
+    ensures { Kind (tensor_view_at «class») «entry».now at sheet.old sheet.new result }
 {
-    let tag = SpotRead::Got(put_value(sheet, TypeTag::TENSOR_VIEW as u64, at));
-    let flags = copy_flags(entry, class, sheet, tag);
-    let element = copy_number(entry, sheet, flags);
-    let shape = copy_list(entry, Number::I64, sheet, element);
-    let strides = copy_list(entry, Number::I64, sheet, shape);
-    copy_byte_if(entry, value_of(flags), sheet, strides)
+    let tag = put_value(sheet, TypeTag::TENSOR_VIEW as u64, at);
+    let flags = copy_flags(entry, class, sheet, tag)?;
+    let element = copy_number(entry, sheet, flags)?;
+    let shape = copy_list(entry, Number::I64, sheet, element)?;
+    let strides = copy_list(entry, Number::I64, sheet, shape)?;
+    copy_byte_if(entry, flags.value, sheet, strides)
 }
 
-fn partition_view(entry: &[u8], sheet: &mut [u8], at: Spot) -> SpotRead
+fn partition_view(entry: &[u8], sheet: &mut [u8], at: Spot) -> Result<Spot, Refused>
     requires { Spare «entry».now at }
-    ensures row { Row (mapped field_words partition_view_at «entry».now at.pos) at.word sheet.old sheet.new result }
-    ensures within { Within «entry».now at.pos at.word 7 result }
+    ensures { Kind partition_view_at «entry».now at sheet.old sheet.new result }
 {
-    let tag = SpotRead::Got(put_value(sheet, TypeTag::PARTITION_VIEW as u64, at));
-    let flags = copy_number(entry, sheet, tag);
-    let shape = copy_list(entry, Number::I32, sheet, flags);
-    let view = copy_number(entry, sheet, shape);
-    let dims = copy_list(entry, Number::I32, sheet, view);
-    copy_byte_if(entry, value_of(flags), sheet, dims)
+    let tag = put_value(sheet, TypeTag::PARTITION_VIEW as u64, at);
+    let flags = copy_number(entry, sheet, tag)?;
+    let shape = copy_list(entry, Number::I32, sheet, flags)?;
+    let view = copy_number(entry, sheet, shape)?;
+    let dims = copy_list(entry, Number::I32, sheet, view)?;
+    copy_byte_if(entry, flags.value, sheet, dims)
 }
 
-// The presence byte below 13.3 (nonzero means 1): its word stands before what is read before it.
-fn read_presence(entry: &[u8], from: SpotRead) -> SpotRead
-    ensures by_index { (s : List ℕ) → Copied (unput (mapped truth byte)) «entry».now from s s result }
-    ensures grows { Grows «entry».now from result }
+// The presence byte below 13.3: nonzero means 1.
+#[tactic(auto, unfolding(exact::specs::Sequence::mapped, exact::specs::Sequence::bind, exact::specs::Got::follow, exact::specs::Basic::pure, format::specs::Items::truth))]
+fn read_presence(entry: &[u8], reader: Reader) -> Read<u64>
+    ensures { got_of result ≡ mapped truth byte «entry».now reader.pos }
 {
-    match from {
-        SpotRead::Stop(x) => SpotRead::Stop(x),
-        SpotRead::Got(at) => match (Reader { pos: at.pos }).read_byte(entry) {
-            ByteRead::Stop(x) => SpotRead::Stop(x),
-            ByteRead::Got(b, next) => SpotRead::Got(Spot {
-                pos: next.pos,
-                word: at.word,
-                value: if b == 0 { 0 } else { 1 },
-            }),
-        },
-    }
+    let (presence, next) = reader.read_byte(entry)?;
+    Ok((u64::from(presence != 0), next))
 }
 
-// Below 13.3 the fields behind the presence's word are copied first, and the two words before them are put after that.
-fn old_partition_view(entry: &[u8], sheet: &mut [u8], at: Spot) -> SpotRead
+// Below 13.3 the presence's word stands before what is read before it: the fields behind that word are copied first, and
+// the two words before them are put after that.
+fn old_partition_view(entry: &[u8], sheet: &mut [u8], at: Spot) -> Result<Spot, Refused>
     requires { Spare «entry».now at }
-    ensures row { Row (mapped field_words old_partition_view_at «entry».now at.pos) at.word sheet.old sheet.new result }
-    ensures within { Within «entry».now at.pos at.word 7 result }
+    ensures { Kind old_partition_view_at «entry».now at sheet.old sheet.new result }
 {
-    let begun = SpotRead::Got(Spot {
-        pos: at.pos,
+    let begun = Spot {
         word: at.word + 2,
-        value: 0,
-    });
-    let shape = copy_list(entry, Number::I32, sheet, begun);
-    let view = copy_number(entry, sheet, shape);
-    let dims = copy_list(entry, Number::I32, sheet, view);
-    let presence = read_presence(entry, dims);
-    let present = value_of(presence);
-    sheet::put_word(sheet, at.word + 1, present);
+        ..at
+    };
+    let shape = copy_list(entry, Number::I32, sheet, begun)?;
+    let view = copy_number(entry, sheet, shape)?;
+    let dims = copy_list(entry, Number::I32, sheet, view)?;
+    let (presence, next) = read_presence(entry, Reader { pos: dims.pos })?;
+    sheet::put_word(sheet, at.word + 1, presence);
     sheet::put_word(sheet, at.word, TypeTag::PARTITION_VIEW as u64);
-    copy_field(entry, present == 1, Number::Varint, sheet, presence)
+    let behind = Spot {
+        pos: next.pos,
+        ..dims
+    };
+    copy_number_if(entry, presence == 1, sheet, behind)
 }
 
-fn gather_scatter_view(entry: &[u8], sheet: &mut [u8], at: Spot) -> SpotRead
+fn gather_scatter_view(entry: &[u8], sheet: &mut [u8], at: Spot) -> Result<Spot, Refused>
     requires { Spare «entry».now at }
-    ensures row { Row (mapped field_words gather_scatter_view_at «entry».now at.pos) at.word sheet.old sheet.new result }
-    ensures within { Within «entry».now at.pos at.word 7 result }
+    ensures { Kind gather_scatter_view_at «entry».now at sheet.old sheet.new result }
 {
-    let tag = SpotRead::Got(put_value(sheet, TypeTag::GATHER_SCATTER_VIEW as u64, at));
-    let flags = copy_number(entry, sheet, tag);
-    let shape = copy_list(entry, Number::I32, sheet, flags);
-    let view = copy_number(entry, sheet, shape);
-    let sparse = copy_number(entry, sheet, view);
-    copy_byte_if(entry, value_of(flags), sheet, sparse)
+    let tag = put_value(sheet, TypeTag::GATHER_SCATTER_VIEW as u64, at);
+    let flags = copy_number(entry, sheet, tag)?;
+    let shape = copy_list(entry, Number::I32, sheet, flags)?;
+    let view = copy_number(entry, sheet, shape)?;
+    let sparse = copy_number(entry, sheet, view)?;
+    copy_byte_if(entry, flags.value, sheet, sparse)
 }
 
-fn strided_view(entry: &[u8], sheet: &mut [u8], at: Spot) -> SpotRead
+fn strided_view(entry: &[u8], sheet: &mut [u8], at: Spot) -> Result<Spot, Refused>
     requires { Spare «entry».now at }
-    ensures row { Row (mapped field_words strided_view_at «entry».now at.pos) at.word sheet.old sheet.new result }
-    ensures within { Within «entry».now at.pos at.word 7 result }
+    ensures { Kind strided_view_at «entry».now at sheet.old sheet.new result }
 {
-    let tag = SpotRead::Got(put_value(sheet, TypeTag::STRIDED_VIEW as u64, at));
-    let flags = copy_number(entry, sheet, tag);
-    let shape = copy_list(entry, Number::I32, sheet, flags);
-    let strides = copy_list(entry, Number::I32, sheet, shape);
-    let view = copy_number(entry, sheet, strides);
-    let dims = copy_list(entry, Number::I32, sheet, view);
-    copy_byte_if(entry, value_of(flags), sheet, dims)
+    let tag = put_value(sheet, TypeTag::STRIDED_VIEW as u64, at);
+    let flags = copy_number(entry, sheet, tag)?;
+    let shape = copy_list(entry, Number::I32, sheet, flags)?;
+    let strides = copy_list(entry, Number::I32, sheet, shape)?;
+    let view = copy_number(entry, sheet, strides)?;
+    let dims = copy_list(entry, Number::I32, sheet, view)?;
+    copy_byte_if(entry, flags.value, sheet, dims)
 }
 
-fn function(entry: &[u8], sheet: &mut [u8], at: Spot) -> SpotRead
+fn function(entry: &[u8], sheet: &mut [u8], at: Spot) -> Result<Spot, Refused>
     requires { Spare «entry».now at }
-    ensures row { Row (mapped field_words function_type_at «entry».now at.pos) at.word sheet.old sheet.new result }
-    ensures within { Within «entry».now at.pos at.word 7 result }
+    ensures { Kind function_type_at «entry».now at sheet.old sheet.new result }
 {
-    let tag = SpotRead::Got(put_value(sheet, TypeTag::FUNC as u64, at));
-    let input_count = copy_number(entry, sheet, tag);
-    let inputs = copy_indices(entry, sheet, input_count);
-    let result_count = copy_number(entry, sheet, inputs);
-    copy_indices(entry, sheet, result_count)
+    let tag = put_value(sheet, TypeTag::FUNC as u64, at);
+    let inputs = copy_indices(entry, sheet, tag)?;
+    copy_indices(entry, sheet, inputs)
 }
 
 // A partition view, by the version class.
-fn any_partition_view(entry: &[u8], class: VersionClass, sheet: &mut [u8], at: Spot) -> SpotRead
+fn any_partition_view(
+    entry: &[u8],
+    class: VersionClass,
+    sheet: &mut [u8],
+    at: Spot,
+) -> Result<Spot, Refused>
     requires { Spare «entry».now at }
-    ensures row { Row (mapped field_words (partition_at «class») «entry».now at.pos) at.word sheet.old sheet.new result }
-    ensures within { Within «entry».now at.pos at.word 7 result }
+    ensures { Kind (partition_at «class») «entry».now at sheet.old sheet.new result }
 {
     if class.from_13_3() {
         return partition_view(entry, sheet, at);
@@ -168,13 +158,12 @@ fn decode_fields(
     tag: u64,
     sheet: &mut [u8],
     at: Spot,
-) -> SpotRead
+) -> Result<Spot, Refused>
     requires { Spare «entry».now at }
-    ensures row { Row (mapped field_words (fields_at «class» 0 tag) «entry».now at.pos) at.word sheet.old sheet.new result }
-    ensures within { Within «entry».now at.pos at.word 7 result }
+    ensures { Kind (fields_at «class» 0 tag) «entry».now at sheet.old sheet.new result }
 {
     match tag {
-        0..=11 | 17..=19 | 22 | 0x82 => SpotRead::Got(put_value(sheet, tag, at)),
+        0..=11 | 17..=19 | 22 | 0x82 => Ok(put_value(sheet, tag, at)),
         12 => pointer(entry, class, sheet, at),
         13 => tile(entry, sheet, at),
         14 => tensor_view(entry, class, sheet, at),
@@ -182,41 +171,38 @@ fn decode_fields(
         16 => function(entry, sheet, at),
         20 => gather_scatter_view(entry, sheet, at),
         21 => strided_view(entry, sheet, at),
-        _ => SpotRead::Stop(Refused {
-            no: Refusal::TYPE_TAG,
+        _ => Err(Refused {
+            refusal: Refusal::TypeTag,
             at: 0,
         }),
     }
 }
 
-// A type entry: the number of words that follow is put when they are.
-fn decode_type_entry(entry: &[u8], class: VersionClass, sheet: &mut [u8], word: usize) -> SpotRead
+// A type entry: the number of words that follow is put when they are. What is left of the entry is passed over.
+fn decode_type_entry(
+    entry: &[u8],
+    class: VersionClass,
+    sheet: &mut [u8],
+    word: usize,
+) -> Result<Spot, Refused>
     requires { word + 8 * length «entry».now ≤ 2 ^ 61 }
     ensures row { Row (mapped type_words (type_entry_at «class») «entry».now 0) word sheet.old sheet.new result }
     ensures short { Short «entry».now word result }
 {
-    match (Reader { pos: 0 }).read_varint(entry) {
-        NumRead::Stop(x) => SpotRead::Stop(x),
-        NumRead::Got(tag, next) => {
-            let at = Spot {
-                pos: next.pos,
-                word: word + 1,
-                value: tag,
-            };
-            match decode_fields(entry, class, tag, sheet, at) {
-                SpotRead::Stop(x) => SpotRead::Stop(x),
-                SpotRead::Got(end) => {
-                    let count = end.word - (word + 1);
-                    sheet::put_word(sheet, word, count as u64);
-                    SpotRead::Got(Spot {
-                        pos: entry.len(),
-                        word: end.word,
-                        value: tag,
-                    })
-                }
-            }
-        }
-    }
+    let (tag, next) = (Reader { pos: 0 }).read_varint(entry)?;
+    let first = word + 1;
+    let at = Spot {
+        pos: next.pos,
+        word: first,
+        value: tag,
+    };
+    let end = decode_fields(entry, class, tag, sheet, at)?;
+    let count = end.word - first;
+    sheet::put_word(sheet, word, count as u64);
+    Ok(Spot {
+        pos: entry.len(),
+        ..end
+    })
 }
 
 // Entry by entry: its bounds are judged before its fields.
@@ -226,43 +212,34 @@ fn decode_type_entries(
     class: VersionClass,
     sheet: &mut [u8],
     word: usize,
-) -> SpotRead
+) -> Result<Spot, Refused>
     requires lies { Lies 4 payload.now starts }
     requires payload_bound { word + 8 * length payload.now ≤ 2 ^ 60 }
     ensures { Row (words_of type_words (entries_by 0 (type_entry_at «class») payload.now starts)) word sheet.old sheet.new result }
 {
-    let first = starts.first;
     let base = starts.data;
-    let run = &payload[first..base];
+    let run = &payload[starts.first..base];
     let data = &payload[base..];
     let mut next = word;
     let mut from = first_entry(run, Width::Four, data.len());
-    let mut left = starts.count;
-    while 0 < left {
-        match next_entry(run, Width::Four, data.len(), 0, from) {
-            EntryRead::Stop(x) => {
-                return SpotRead::Stop(x);
+    for _ in 0..starts.count {
+        let behind = next_entry(run, Width::Four, data.len(), 0, from)?;
+        let start = from.start.0;
+        let end = behind.start.0;
+        match decode_type_entry(&data[start..end], class, sheet, next) {
+            Err(refused) => {
+                return Err(Refused {
+                    at: base + start + refused.at,
+                    ..refused
+                });
             }
-            EntryRead::Got(behind) => {
-                let start = from.start.0;
-                let end = behind.start.0;
-                match decode_type_entry(&data[start..end], class, sheet, next) {
-                    SpotRead::Stop(x) => {
-                        return SpotRead::Stop(Refused {
-                            no: x.no,
-                            at: base + start + x.at,
-                        });
-                    }
-                    SpotRead::Got(row) => {
-                        next = row.word;
-                        from = behind;
-                        left -= 1;
-                    }
-                }
+            Ok(row) => {
+                next = row.word;
+                from = behind;
             }
         }
     }
-    SpotRead::Got(Spot {
+    Ok(Spot {
         pos: payload.len(),
         word: next,
         value: 0,
@@ -279,19 +256,11 @@ pub fn parse_type_section(
     requires { Fits at payload.now }
     ensures { Fills at (type_rows (types_at «class» 0 payload.now 0)) sheet.old sheet.new [] [] result }
 {
-    match parse_starts(payload, Width::Four) {
-        StartsRead::Stop(x) => TableRead::Stop(x),
-        StartsRead::Got(starts) => {
-            match decode_type_entries(payload, starts, class, sheet, at.words) {
-                SpotRead::Stop(x) => TableRead::Stop(x),
-                SpotRead::Got(end) => TableRead::Got(
-                    starts.count,
-                    Filled {
-                        words: end.word,
-                        bytes: at.bytes,
-                    },
-                ),
-            }
-        }
-    }
+    let starts = parse_starts(payload, Width::Four)?;
+    let end = decode_type_entries(payload, starts, class, sheet, at.words)?;
+    let filled = Filled {
+        words: end.word,
+        ..at
+    };
+    Ok((starts.count, filled))
 }

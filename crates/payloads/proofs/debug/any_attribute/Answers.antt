@@ -13,7 +13,7 @@ returns-then-is_whole c =
 
 pub returns-then-put_short : goal.returns-then-put_short
 returns-then-put_short c =
-    let (ws, e, n, p) = c.put_short.ensures.by_index c.if-put_short.true in
+    let (ws, e, n, p) = c.put_short.ensures.row c.if-put_short.true in
     short_row _ ws _ _ _ _ _ e n p
 
 -- Where the attribute is still to be read, nothing was put.

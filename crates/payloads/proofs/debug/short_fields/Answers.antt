@@ -1,69 +1,33 @@
 -- `short_fields` turns six times: what it has found and what is left make up the whole (`Going`). Assumes nothing.
 use mathlib.Core.Path.{refl}
-use Prim.Native.Nat.{ℕ, ◌+◌, ◌<◌}
-use mathlib.Core.List.{List}
+use Prim.Native.Nat.{◌+◌, ◌<◌}
 use native.Mathlib.Omega.{arith}
 use lib.ListN.{get_or}
-use Rattle.payloads.specs.Shorts.{high_at}
 use Rattle.payloads.proofs.LawsShorts.{high_small, going-begun, going-over, going_more, going-past}
 use Rattle.payloads.proofs.debug.short_fields.Goals as goal
 use Rattle.payloads.proofs.debug.short_fields.Goals.{then-k-count, else-k-count}
-
--- What the number of two bytes beyond its first can be.
-small : (d : List ℕ) (e : ℕ) → get_or d e 0 < 256 → get_or d (e + 1) 0 < 256 → high_at d e < 32768
-small d e first second = (high_small d e first second).1
 
 pub loop-k-init : goal.loop-k-init
 loop-k-init c = going-begun _ _ _ _ refl
 
 pub bounds-data-end : goal.bounds-data-end
-bounds-data-end c = omega (arith, c.loop-k-test.true, c.loop-k.invariant.near, c.requires)
-
-pub overflow_cast-first : goal.overflow_cast-first
-overflow_cast-first c = omega (arith, c.type_inv.data c.loop-k.end)
+bounds-data-end c = omega (arith, c.loop-k.invariant.near)
 
 pub overflow_add-second : goal.overflow_add-second
-overflow_add-second c = omega (arith, c.loop-k.invariant.near, c.loop-k.invariant.turns, c.requires)
+overflow_add-second c = omega (arith, c.loop-k.invariant.near)
 
 pub bounds-data-end-in-loop-k : goal.bounds-data-end-in-loop-k
-bounds-data-end-in-loop-k c = omega (arith, c.loop-k-test.true, c.loop-k.invariant.near, c.requires)
-
-pub overflow_cast-second : goal.overflow_cast-second
-overflow_cast-second c = omega (arith, c.type_inv.data (c.loop-k.end + 1))
-
-pub overflow_mul-high : goal.overflow_mul-high
-overflow_mul-high c = omega (arith, c.type_inv.data c.loop-k.end)
-
-pub overflow_mul-high-in-loop-k : goal.overflow_mul-high-in-loop-k
-overflow_mul-high-in-loop-k c = omega (
-  arith,
-  small c.args.«data».now c.loop-k.end (omega (arith, c.type_inv.data c.loop-k.end))
-      (omega (arith, c.type_inv.data (c.loop-k.end + 1))),
-)
-
-pub overflow_add-value : goal.overflow_add-value
-overflow_add-value c = omega (
-  arith,
-  small c.args.«data».now c.loop-k.end (omega (arith, c.type_inv.data c.loop-k.end))
-      (omega (arith, c.type_inv.data (c.loop-k.end + 1))),
-)
+bounds-data-end-in-loop-k c = omega (arith, c.loop-k.invariant.near)
 
 pub overflow_add-long : goal.overflow_add-long
-overflow_add-long c = let l = c.loop-k in omega (
-  arith,
-  l.invariant.few,
-  l.invariant.turns,
-  small c.args.«data».now c.loop-k.end (omega (arith, c.type_inv.data c.loop-k.end))
-      (omega (arith, c.type_inv.data (c.loop-k.end + 1))),
-)
-
-pub overflow_add-end : goal.overflow_add-end
-overflow_add-end c = omega (arith, c.type_inv.data c.loop-k.end)
+overflow_add-long c =
+    let l = c.loop-k in
+    omega (arith, l.invariant.few, (high_small c.args.«data».now l.end (omega (arith, c.type_inv.data l.end)) (omega (arith, c.type_inv.data (l.end + 1)))).1)
 
 pub overflow_add-end-then-k-count : goal.overflow_add-end-then-k-count
 overflow_add-end-then-k-count c =
     let l = c.loop-k in
-    omega (arith, l.invariant.near, l.invariant.turns, c.requires, c.type_inv.data l.end)
+    omega (arith, l.invariant.near, c.type_inv.data l.end)
 
 pub loop-k-preserved : goal.loop-k-preserved
 loop-k-preserved c =

@@ -11,21 +11,15 @@ loop-i-init c = tail-end _
 pub overflow_mul-value : goal.overflow_mul-value
 overflow_mul-value c = omega (arith, tail-room _ _ _ c.loop-i.invariant c.requires c.loop-i-test.true)
 
-pub bounds-run-i : goal.bounds-run-i
-bounds-run-i c = omega (arith, c.loop-i.invariant.low, c.loop-i-test.true)
-
-pub overflow_cast-value : goal.overflow_cast-value
-overflow_cast-value c = omega (arith, c.type_inv.run (c.loop-i.i - 1))
-
 pub overflow_add-value : goal.overflow_add-value
 overflow_add-value c =
     let next = tail-next _ _ _ c.loop-i.invariant c.loop-i-test.true (omega (arith, c.type_inv.run (c.loop-i.i - 1))) in
-    omega (arith, tail-fits _ _ _ next c.requires)
+    omega (arith, tail-fits _ _ _ next c.requires, c.from.ensures)
 
 pub loop-i-preserved : goal.loop-i-preserved
--- The number with one byte more.
 loop-i-preserved c =
-    tail-next _ _ _ c.loop-i.invariant c.loop-i-test.true (omega (arith, c.type_inv.run (c.loop-i.i - 1)))
+    rw c.from.ensures
+    (tail-next _ _ _ c.loop-i.invariant c.loop-i-test.true (omega (arith, c.type_inv.run (c.loop-i.i - 1))))
 
 pub returns : goal.returns
 returns c = tail_all _ _ _ c.loop-i.invariant c.loop-i-test.false

@@ -1,50 +1,33 @@
 -- `fill_producer` is the producer's step of a pass. Assumes nothing.
+use mathlib.Core.Path.{sym, ◌∙◌}
 use native.Mathlib.Omega.{arith}
-use borrow.Author.Tests.{not-true, not-false}
-use Rattle.format.proofs.LawsBelow.{producer-below}
-use Rattle.payloads.proofs.LawsPass.{part-payload, part-place, goes-stop}
-use Rattle.payloads.proofs.LawsProducing.{
-  producer-index,
-  producer-stopped,
-  producer-absent,
-  producer-named,
-  producer-refused,
-}
+use Rattle.std.proofs.lemmas.Result.{err_from_is_err_and}
+use Rattle.payloads.proofs.LawsRaised.{raised-fits, raised-err, raised-ok, staged-err, staged-ok}
+use Rattle.payloads.proofs.LawsProducing.{producer-index, producer-short, producer-absent, producer-named, producer-refused}
 use Rattle.payloads.proofs.pass.fill_producer.Goals as goal
 
-pub returns-then-not-place : goal.returns-then-not-place
-returns-then-not-place c = λ s p. producer-absent _ _ _ _ _ c.in-Got.is (not-true _ c.if-not-place.true)
+pub returns-in_default : goal.returns-in_default
+returns-in_default c = λ at s p. producer-absent _ _ at _ c.in_default.ensures
 
-pub overflow_add-end : goal.overflow_add-end
-overflow_add-end c = omega (arith, c.requires.file_len_bound, c.requires.inside)
+pub raised-found-requires : goal.raised-found-requires
+raised-found-requires c =
+    raised-fits _ _ (λ x e. omega (arith, producer-short _ _ _ c.parse_producer.ensures x e, c.in-Some.payload.near))
 
-pub slice_bounds-parse_producer-end : goal.slice_bounds-parse_producer-end
-slice_bounds-parse_producer-end c = omega (arith, c.requires.inside)
+pub returns-in_err-index : goal.returns-in_err-index
+returns-in_err-index c =
+    let p = err_from_is_err_and c.from_residual.result c.from_residual.ensures.1 in
+    let (y, e, q) = staged-err _ _ _ c.in_err-index.ensures in
+    let (x, f, o) = raised-err _ _ _ (sym e ∙ c.raised-found.ensures) in
+    let there = c.in-Some.ensures in
+    rw (p.1, p.2, q, o) (λ at s p. producer-refused _ _ at _ _ _ _ there.0 there.1 there.2 c.parse_producer.ensures x f)
 
 pub overflow_add-result : goal.overflow_add-result
 overflow_add-result c =
-    let g = producer-stopped _ _ _ _ c.in-Stop-parse_producer.is c.parse_producer.ensures in
-    let m = part-place c.args.file.now c.args.place _ (producer-below _ _ _ _ g) c.requires.inside in
-    omega (arith, m, c.requires.file_len_bound)
+    let f = raised-ok _ _ _ (sym (staged-ok _ _ _ c.in_ok-index.ensures) ∙ c.raised-found.ensures) in
+    omega (arith, producer-index _ _ _ c.parse_producer.ensures _ f)
 
-pub overflow_add-result-in-Got-parse_producer : goal.overflow_add-result-in-Got-parse_producer
-overflow_add-result-in-Got-parse_producer c =
-    let below = producer-index _ _ _ _ c.in-Got-parse_producer.is c.parse_producer.ensures in
-    omega (arith, below)
-
-pub returns-in-Stop : goal.returns-in-Stop
-returns-in-Stop c = λ s p. goes-stop _ _ _ _ _ c.in-Stop.is
-
-pub returns-in-Stop-parse_producer : goal.returns-in-Stop-parse_producer
-returns-in-Stop-parse_producer c =
-    λ s p.
-    let a = c.args in
-    producer-refused _ _ _ _ _ c.in-Got.is _ _ (not-false _ c.if-not-place.false) (part-payload a.file.now a.place)
-    c.parse_producer.ensures _ c.in-Stop-parse_producer.is
-
-pub returns-in-Got-parse_producer : goal.returns-in-Got-parse_producer
-returns-in-Got-parse_producer c =
-    λ s p.
-    let a = c.args in
-    producer-named _ _ _ _ _ c.in-Got.is _ _ (not-false _ c.if-not-place.false) (part-payload a.file.now a.place)
-    c.parse_producer.ensures _ c.in-Got-parse_producer.is
+pub returns : goal.returns
+returns c =
+    let f = raised-ok _ _ _ (sym (staged-ok _ _ _ c.in_ok-index.ensures) ∙ c.raised-found.ensures) in
+    let there = c.in-Some.ensures in
+    λ at s p. producer-named _ _ at _ _ _ _ there.0 there.1 there.2 c.parse_producer.ensures _ f

@@ -1,41 +1,31 @@
 -- `read_debug` answers in the places of the file, and fills as the reader of Debug does. Assumes nothing.
-use mathlib.Core.Path.{sym, subst}
+use mathlib.Core.Path.{ap}
 use native.Mathlib.Omega.{arith}
-use borrow.Author.Tests.{not-true, not-false}
+use lib.ListN.{length}
+use Rattle.enums.specs.declared.Section.TheVariants as section
 use Rattle.format.specs.DecodeDebug.{debug_at}
 use Rattle.format.proofs.LawsBelow.{debug-below}
-use Rattle.payloads.specs.Fill.{Fits}
-use Rattle.payloads.proofs.LawsPass.{part-payload, part-place}
-use Rattle.payloads.proofs.LawsDebugging.{debug-stopped, absent-debug, present-debug-stop, present-debug}
+use Rattle.payloads.specs.Pass.{place_at}
+use Rattle.payloads.proofs.LawsRaised.{raised-fits}
+use Rattle.payloads.proofs.LawsPass.{part-fits}
+use Rattle.payloads.proofs.LawsSizes.{payload-short}
+use Rattle.payloads.proofs.LawsDebugging.{debug-stopped, absent-debug, present-debug}
 use Rattle.payloads.proofs.pass.read_debug.Goals as goal
 
-pub returns-then-not-place : goal.returns-then-not-place
-returns-then-not-place c = absent-debug _ _ _ _ (not-true _ c.if-not-place.true)
-
-pub overflow_add-end : goal.overflow_add-end
-overflow_add-end c = omega (arith, c.requires.file_len_bound, c.requires.inside)
-
-pub slice_bounds-parse_debug_section-end : goal.slice_bounds-parse_debug_section-end
-slice_bounds-parse_debug_section-end c = omega (arith, c.requires.inside)
+pub returns-in-None : goal.returns-in-None
+returns-in-None c = absent-debug _ _ _ _ c.in-None.ensures
 
 pub parse_debug_section-requires : goal.parse_debug_section-requires
 parse_debug_section-requires c =
-    subst (Fits c.args.at) (sym (part-payload c.args.file.now c.args.place)) c.requires.fits
+    let short = payload-short c.args.source.file.now (place_at c.args.source.container section.Debug) in
+    part-fits _ _ _ (omega (arith, ap length c.in-Some.ensures.2, short.1)) c.requires
 
-pub overflow_add-result : goal.overflow_add-result
-overflow_add-result c =
-    let g = debug-stopped _ _ _ _ c.in-Stop.is c.parse_debug_section.ensures in
-    let m = part-place c.args.file.now c.args.place _ (debug-below _ _ _ g) c.requires.inside in
-    omega (arith, m, c.requires.file_len_bound)
+pub raised-requires : goal.raised-requires
+raised-requires c =
+    raised-fits _ _
+    (λ x e. omega (arith, debug-below _ _ _ (debug-stopped _ _ x (rw e at c.parse_debug_section.ensures)), c.in-Some.payload.near))
 
-pub returns-in-Stop : goal.returns-in-Stop
-returns-in-Stop c =
-    let a = c.args in
-    present-debug-stop a.at a.file.now a.place (λ l. debug_at l 0) _ _ (not-false _ c.if-not-place.false)
-    (part-payload a.file.now a.place) _ c.in-Stop.is c.parse_debug_section.ensures
-
-pub returns-in-Got : goal.returns-in-Got
-returns-in-Got c =
-    let a = c.args in
-    present-debug a.at a.file.now a.place (λ l. debug_at l 0) _ _ (not-false _ c.if-not-place.false)
-    (part-payload a.file.now a.place) _ _ _ c.in-Got.is c.parse_debug_section.ensures
+pub returns-in-Some : goal.returns-in-Some
+returns-in-Some c =
+    rw c.raised.ensures
+    (present-debug _ _ _ (λ l. debug_at l 0) _ _ _ c.in-Some.ensures.0 c.in-Some.ensures.1 c.in-Some.ensures.2 c.parse_debug_section.ensures)

@@ -1,51 +1,44 @@
 -- `fill_globals` fills in row after row: whatever the rest of the rows fills in, all of them fill in. Assumes nothing.
-use mathlib.Core.Path.{refl, ap, ◌∙◌}
+use mathlib.Core.Path.{◌≡◌, refl, sym}
+use Prim.Native.Nat.{◌+◌, ◌-◌, ◌≤◌, ◌<◌}
 use native.Mathlib.Omega.{arith}
-use lib.ListN.{length}
-use Rattle.sheet.proofs.LawsStore.{length-put_words}
-use Rattle.reading.proofs.LawsShown.{told}
-use Rattle.payloads.proofs.LawsFilling.{times_none, times-stop, filling-none, filling-stop}
+use Rattle.std.proofs.lemmas.Result.{err_from_is_err_and}
 use Rattle.format.specs.Sheet.{global_words}
-use Rattle.entries.specs.Rows.{got_global}
 use Rattle.entries.proofs.LawsRows.{global-in}
+use Rattle.payloads.proofs.LawsFilling.{times_none, times-stop, filling-none, filling-stop}
 use Rattle.payloads.proofs.LawsRows.{no_runs, globals-more, globals-filled}
 use Rattle.payloads.proofs.rows.fill_globals.Goals as goal
 
-pub loop-left-init : goal.loop-left-init
-loop-left-init c = (λ s p r x. x, refl, c.requires.pos_in_bounds, omega arith)
+pub loop-init : goal.loop-init
+loop-init c =
+    let z : c.args.count - 0 ≡ c.args.count = omega arith in
+    rw z (record { onward = λ s p r x. x; inside = c.requires.pos_in_bounds; words = omega arith })
 
-pub returns-in-Stop : goal.returns-in-Stop
-returns-in-Stop c =
-    λ pool. globals-filled _ _ _ _ _ _ _ _ _ _
-    (c.loop-left.invariant.0 _ pool _
-    (filling-stop global_words no_runs _ _ _ _ _ _ _ _ _
-    (times-stop _ _ _ _ _ _ c.loop-left-test.true (told got_global c.in-Stop.is c.read_global.ensures))))
+pub returns-in_err-row : goal.returns-in_err-row
+returns-in_err-row c =
+    let some : 0 < c.args.count - c.loop.counter = omega arith in
+    let p = err_from_is_err_and c.from_residual.result c.from_residual.ensures.1 in
+    rw (p.1, p.2)
+    (λ pool. globals-filled _ _ _ _ _ _ _ _ _ _
+    (c.loop.invariant.onward _ pool _
+    (filling-stop global_words no_runs _ _ _ _ _ _ _ _ _ (times-stop _ _ _ _ _ _ some (sym c.in_err-row.ensures)))))
 
-pub put_global-requires : goal.put_global-requires
-put_global-requires c = omega (arith, c.loop-left.invariant.2, c.loop-left.invariant.3, c.requires.fits.words)
-
-pub overflow_add-words : goal.overflow_add-words
-overflow_add-words c = omega (arith, c.loop-left.invariant.2, c.loop-left.invariant.3, c.requires.fits.words)
-
-pub overflow_sub-left : goal.overflow_sub-left
-overflow_sub-left c = omega (arith, c.loop-left-test.true)
-
-pub loop-left-smaller : goal.loop-left-smaller
-loop-left-smaller c = omega (arith, c.loop-left-test.true)
-
-pub loop-left-preserved : goal.loop-left-preserved
-loop-left-preserved c =
-    let l = c.loop-left.invariant in
-    let t = (told got_global c.in-Got.is c.read_global.ensures) in
-    let e = c.put_global.ensures in
-    let n = global-in _ _ _ _ _ l.2 t in (
-      λ s p r x. l.0 s p r (globals-more _ _ _ _ _ _ _ _ _ _ _ _ _ _ c.loop-left-test.true t e x),
-      ap length e ∙ length-put_words _ _ _ ∙ l.1,
-      n.1,
-      omega (arith, l.3, n.0),
-    )
+pub loop-preserved : goal.loop-preserved
+loop-preserved c =
+    let l = c.loop.invariant in
+    let m : c.args.count - (c.loop.counter + 1) ≡ c.args.count - c.loop.counter - 1 = omega arith in
+    let some : 0 < c.args.count - c.loop.counter = omega arith in
+    let t = sym c.in_ok-row.ensures in
+    let n = global-in _ _ _ _ _ l.inside t in
+    rw m
+    (record {
+      onward = λ s p r x. l.onward s p r (globals-more _ _ _ _ _ _ _ _ _ _ _ _ _ _ some t c.put_global.ensures x);
+      inside = n.1;
+      words = omega (arith, n.0);
+    })
 
 pub returns : goal.returns
 returns c =
+    let z : c.args.count - c.loop.counter ≤ 0 = omega arith in
     λ pool. globals-filled _ _ _ _ _ _ _ _ _ _
-    (c.loop-left.invariant.0 _ pool _ (filling-none global_words no_runs _ _ _ _ _ _ _ _ _ (times_none _ _ _ _ c.loop-left-test.false) refl refl))
+    (c.loop.invariant.onward _ pool _ (filling-none global_words no_runs _ _ _ _ _ _ _ _ _ (times_none _ _ _ _ z) refl refl))

@@ -5,70 +5,31 @@ use Prim.Native.Nat.{◌<◌}
 use native.Mathlib.Omega.{arith}
 use mathlib.Core.Bool.{true}
 use Rattle.format.specs.Types.{plain_tags, among}
-use Rattle.payloads.proofs.LawsTypes.{spare-tag, tag-within, within-most}
-use Rattle.payloads.proofs.LawsTypeEntries.{row_as, kind-pointer, kind-tile, kind-tensor, kind-partition, kind-function, kind-gather, kind-strided, plain_row, unknown-row, within_first}
+use Rattle.payloads.proofs.LawsTypeEntries.{kind-as, kind-pointer, kind-tile, kind-tensor, kind-partition, kind-function, kind-gather, kind-strided, plain_kind, unknown-kind}
 use Rattle.format.proofs.LawsTags.{plain-low}
 use Rattle.payloads.proofs.types.decode_fields.Goals as goal
 use Rattle.payloads.proofs.types.decode_fields.Goals.{in-22-1, in_default+then-tag-lt20}
 
-pub put_value-requires : goal.put_value-requires
-put_value-requires c = spare-tag _ _ c.requires
-
 pub returns-in-12 : goal.returns-in-12
-returns-in-12 c =
-    let p = c.pointer.ensures in
-    record {
-      row = row_as _ _ _ _ _ _ _ _ (kind-pointer _ _ c.in-12.is) p.row;
-      within = p.within;
-    }
+returns-in-12 c = kind-as (kind-pointer _ _ c.in-12.is) c.pointer.ensures
 
 pub returns-in-13 : goal.returns-in-13
-returns-in-13 c =
-    let p = c.tile.ensures in
-    record {
-      row = row_as _ _ _ _ _ _ _ _ (kind-tile _ _ c.in-13.is) p.row;
-      within = p.within;
-    }
+returns-in-13 c = kind-as (kind-tile _ _ c.in-13.is) c.tile.ensures
 
 pub returns-in-14 : goal.returns-in-14
-returns-in-14 c =
-    let p = c.tensor_view.ensures in
-    record {
-      row = row_as _ _ _ _ _ _ _ _ (kind-tensor _ _ c.in-14.is) p.row;
-      within = p.within;
-    }
+returns-in-14 c = kind-as (kind-tensor _ _ c.in-14.is) c.tensor_view.ensures
 
 pub returns-in-15 : goal.returns-in-15
-returns-in-15 c =
-    let p = c.any_partition_view.ensures in
-    record {
-      row = row_as _ _ _ _ _ _ _ _ (kind-partition _ _ c.in-15.is) p.row;
-      within = p.within;
-    }
+returns-in-15 c = kind-as (kind-partition _ _ c.in-15.is) c.any_partition_view.ensures
 
 pub returns-in-16 : goal.returns-in-16
-returns-in-16 c =
-    let p = c.function.ensures in
-    record {
-      row = row_as _ _ _ _ _ _ _ _ (kind-function _ _ c.in-16.is) p.row;
-      within = p.within;
-    }
+returns-in-16 c = kind-as (kind-function _ _ c.in-16.is) c.function.ensures
 
 pub returns-in-20 : goal.returns-in-20
-returns-in-20 c =
-    let p = c.gather_scatter_view.ensures in
-    record {
-      row = row_as _ _ _ _ _ _ _ _ (kind-gather _ _ c.in-20.is) p.row;
-      within = p.within;
-    }
+returns-in-20 c = kind-as (kind-gather _ _ c.in-20.is) c.gather_scatter_view.ensures
 
 pub returns-in-21 : goal.returns-in-21
-returns-in-21 c =
-    let p = c.strided_view.ensures in
-    record {
-      row = row_as _ _ _ _ _ _ _ _ (kind-strided _ _ c.in-21.is) p.row;
-      within = p.within;
-    }
+returns-in-21 c = kind-as (kind-strided _ _ c.in-21.is) c.strided_view.ensures
 
 pub returns-in_default : goal.returns-in_default
 returns-in_default c =
@@ -77,10 +38,7 @@ returns-in_default c =
     let n22 : ¬ (t ≡ 22) = λ e. r.0.0.0.0.0.0.0.1 (inl e) in
     let n130 : ¬ (t ≡ 130) = λ e. r.0.0.0.0.0.0.0.1 (inr e) in
     let h : 22 < t = omega (arith, c.in_default.if-tag-lt20-own.false, r.0.1, r.1, n22) in
-    record {
-      row = unknown-row _ _ _ _ _ c.args.at h n130;
-      within = within_first _ _ _ _ _;
-    }
+    unknown-kind _ _ _ _ _ c.args.at h n130
 
 pub returns-in-0-to-11 : goal.returns-in-0-to-11
 returns-in-0-to-11 c =
@@ -93,7 +51,4 @@ returns-in-0-to-11 c =
           let r = w.in_default-1.rest in
           plain-low t w.if-tag-lt20-1.true r.0.0.0.0.0.0.1 r.0.0.0.0.0.1 r.0.0.0.0.1 r.0.0.0.1 r.0.0.1
     ] in
-    record {
-      row = plain_row _ _ _ _ _ c.args.at _ h p.value p.sheet_after;
-      within = within-most _ _ _ _ _ _ (omega arith) (tag-within _ _ _ _ p.value c.requires);
-    }
+    plain_kind _ _ _ _ _ c.args.at _ c.requires.0 h p.value p.sheet_after

@@ -1,45 +1,27 @@
 -- `pointer` puts the tag and copies the fields of its kind. Assumes nothing.
 use native.Mathlib.Omega.{arith}
-use Rattle.reading.specs.Numbers.{varint_at}
-use Rattle.format.specs.DecodeTypes.{flags_at, byte_if}
-use Rattle.payloads.specs.Fields.{as_word, value_of}
-use Rattle.payloads.proofs.LawsFields.{then, copied-then}
-use Rattle.payloads.proofs.LawsTypes.{row_of, spare-tag, spare-room, tag-within, grow, within-most, pointer-says, pointer_steps, byte-told}
+use Rattle.std.proofs.lemmas.Result.{err_from_is_err_and}
+use Rattle.payloads.proofs.LawsTypes.{kind_of, ran_more, ran-last, ran-stop, pointer-says, pointer_steps}
 use Rattle.payloads.proofs.types.pointer.Goals as goal
 
-pub put_value-requires : goal.put_value-requires
-put_value-requires c = spare-tag _ _ c.requires
+pub returns-in_err-flags : goal.returns-in_err-flags
+returns-in_err-flags c =
+    let t = c.put_value-tag.ensures in
+    let p = err_from_is_err_and c.from_residual.result c.from_residual.ensures.1 in
+    rw (p.1, p.2)
+    (kind_of {x = pointer_steps c.args.class} (pointer-says _) c.args.at (omega arith) t.value t.sheet_after
+    (ran-stop c.in_err-flags.ensures))
 
-pub copy_flags-flags-requires : goal.copy_flags-flags-requires
-copy_flags-flags-requires c =
-    let w1 = tag-within _ _ _ _ c.put_value.ensures.value c.requires in
-    spare-room _ _ _ _ (omega arith) c.requires w1
-
-pub copy_number-element-requires : goal.copy_number-element-requires
-copy_number-element-requires c =
-    let w1 = tag-within _ _ _ _ c.put_value.ensures.value c.requires in
-    let w2 = grow _ _ _ _ _ _ w1 c.copy_flags-flags.ensures.grows in
-    spare-room _ _ _ _ (omega arith) c.requires w2
-
-pub copy_byte_if-requires : goal.copy_byte_if-requires
-copy_byte_if-requires c =
-    let w1 = tag-within _ _ _ _ c.put_value.ensures.value c.requires in
-    let w2 = grow _ _ _ _ _ _ w1 c.copy_flags-flags.ensures.grows in
-    let w3 = grow _ _ _ _ _ _ w2 c.copy_number-element.ensures.grows in
-    spare-room _ _ _ _ (omega arith) c.requires w3
+pub returns-in_err-element : goal.returns-in_err-element
+returns-in_err-element c =
+    let t = c.put_value-tag.ensures in
+    let p = err_from_is_err_and c.from_residual-in_err-element.result c.from_residual-in_err-element.ensures.1 in
+    rw (p.1, p.2)
+    (kind_of {x = pointer_steps c.args.class} (pointer-says _) c.args.at (omega arith) t.value t.sheet_after
+    (ran_more c.in_ok-flags.ensures (ran-stop c.in_err-element.ensures)))
 
 pub returns : goal.returns
-unfolding pointer_steps
 returns c =
-    let w1 = tag-within _ _ _ _ c.put_value.ensures.value c.requires in
-    let w2 = grow _ _ _ _ _ _ w1 c.copy_flags-flags.ensures.grows in
-    let w3 = grow _ _ _ _ _ _ w2 c.copy_number-element.ensures.grows in
-    let w4 = grow _ _ _ _ _ _ w3 c.copy_byte_if.ensures.grows in
-    let f = value_of c.copy_flags-flags.result in
-    let x3 = byte-told _ _ _ _ _ c.value_of.ensures c.copy_byte_if.ensures.copied in
-    let x2 = copied-then (as_word varint_at) (λ _. as_word (byte_if f)) _ _ _ _ _ _ _ c.copy_number-element.ensures.copied x3 in
-    let x1 = copied-then (as_word (flags_at c.args.class)) (λ flags. then (as_word varint_at) (λ _. as_word (byte_if flags))) _ _ _ _ _ _ _ c.copy_flags-flags.ensures.copied x2 in
-    record {
-      row = row_of _ (pointer_steps c.args.class) _ (pointer-says c.args.class) _ _ _ _ c.args.at _ _ c.put_value.ensures.value c.put_value.ensures.sheet_after x1;
-      within = within-most _ _ _ _ _ _ (omega arith) w4;
-    }
+    let t = c.put_value-tag.ensures in
+    kind_of {x = pointer_steps c.args.class} (pointer-says _) c.args.at (omega arith) t.value t.sheet_after
+    (ran_more c.in_ok-flags.ensures (ran_more c.in_ok-element.ensures (ran-last c.copy_byte_if.ensures)))

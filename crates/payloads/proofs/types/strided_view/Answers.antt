@@ -1,83 +1,51 @@
 -- `strided_view` puts the tag and copies the fields of its kind. Assumes nothing.
 use native.Mathlib.Omega.{arith}
-use Rattle.reading.specs.Numbers.{varint_at}
-use Rattle.format.specs.DecodeTypes.{byte_if}
-use Rattle.payloads.specs.declared.fields.Number.TheVariants.{I32}
-use Rattle.payloads.specs.Fields.{as_word, listed, value_of}
-use Rattle.payloads.proofs.LawsFields.{then, copied-then}
-use Rattle.payloads.proofs.LawsTypes.{row_of, spare-tag, spare-room, tag-within, grow, within-most, strided-view-says, strided_view_steps, byte-told}
+use Rattle.std.proofs.lemmas.Result.{err_from_is_err_and}
+use Rattle.payloads.proofs.LawsTypes.{kind_of, ran_more, ran-last, ran-stop, strided-view-says, strided_view_steps}
 use Rattle.payloads.proofs.types.strided_view.Goals as goal
 
-pub put_value-requires : goal.put_value-requires
-put_value-requires c = spare-tag _ _ c.requires
+pub returns-in_err-flags : goal.returns-in_err-flags
+returns-in_err-flags c =
+    let t = c.put_value-tag.ensures in
+    let p = err_from_is_err_and c.from_residual.result c.from_residual.ensures.1 in
+    rw (p.1, p.2)
+    (kind_of {x = strided_view_steps} strided-view-says c.args.at (omega arith) t.value t.sheet_after
+    (ran-stop c.in_err-flags.ensures))
 
-pub copy_number-flags-requires : goal.copy_number-flags-requires
-copy_number-flags-requires c =
-    let w1 = tag-within _ _ _ _ c.put_value.ensures.value c.requires in
-    spare-room _ _ _ _ (omega arith) c.requires w1
+pub returns-in_err-shape : goal.returns-in_err-shape
+returns-in_err-shape c =
+    let t = c.put_value-tag.ensures in
+    let p = err_from_is_err_and c.from_residual-in_err-shape.result c.from_residual-in_err-shape.ensures.1 in
+    rw (p.1, p.2)
+    (kind_of {x = strided_view_steps} strided-view-says c.args.at (omega arith) t.value t.sheet_after
+    (ran_more c.in_ok-flags.ensures (ran-stop c.in_err-shape.ensures)))
 
-pub copy_list-shape-requires : goal.copy_list-shape-requires
-copy_list-shape-requires c =
-    let w1 = tag-within _ _ _ _ c.put_value.ensures.value c.requires in
-    let w2 = grow _ _ _ _ _ _ w1 c.copy_number-flags.ensures.grows in
-    spare-room _ _ _ _ (omega arith) c.requires w2
+pub returns-in_err-strides : goal.returns-in_err-strides
+returns-in_err-strides c =
+    let t = c.put_value-tag.ensures in
+    let p = err_from_is_err_and c.from_residual-in_err-strides.result c.from_residual-in_err-strides.ensures.1 in
+    rw (p.1, p.2)
+    (kind_of {x = strided_view_steps} strided-view-says c.args.at (omega arith) t.value t.sheet_after
+    (ran_more c.in_ok-flags.ensures (ran_more c.in_ok-shape.ensures (ran-stop c.in_err-strides.ensures))))
 
-pub copy_list-strides-requires : goal.copy_list-strides-requires
-copy_list-strides-requires c =
-    let w1 = tag-within _ _ _ _ c.put_value.ensures.value c.requires in
-    let w2 = grow _ _ _ _ _ _ w1 c.copy_number-flags.ensures.grows in
-    let w3 = grow _ _ _ _ _ _ w2 c.copy_list-shape.ensures.grows in
-    spare-room _ _ _ _ (omega arith) c.requires w3
+pub returns-in_err-view : goal.returns-in_err-view
+returns-in_err-view c =
+    let t = c.put_value-tag.ensures in
+    let p = err_from_is_err_and c.from_residual-in_err-view.result c.from_residual-in_err-view.ensures.1 in
+    rw (p.1, p.2)
+    (kind_of {x = strided_view_steps} strided-view-says c.args.at (omega arith) t.value t.sheet_after
+    (ran_more c.in_ok-flags.ensures (ran_more c.in_ok-shape.ensures (ran_more c.in_ok-strides.ensures (ran-stop c.in_err-view.ensures)))))
 
-pub copy_number-view-requires : goal.copy_number-view-requires
-copy_number-view-requires c =
-    let w1 = tag-within _ _ _ _ c.put_value.ensures.value c.requires in
-    let w2 = grow _ _ _ _ _ _ w1 c.copy_number-flags.ensures.grows in
-    let w3 = grow _ _ _ _ _ _ w2 c.copy_list-shape.ensures.grows in
-    let w4 = grow _ _ _ _ _ _ w3 c.copy_list-strides.ensures.grows in
-    spare-room _ _ _ _ (omega arith) c.requires w4
-
-pub copy_list-dims-requires : goal.copy_list-dims-requires
-copy_list-dims-requires c =
-    let w1 = tag-within _ _ _ _ c.put_value.ensures.value c.requires in
-    let w2 = grow _ _ _ _ _ _ w1 c.copy_number-flags.ensures.grows in
-    let w3 = grow _ _ _ _ _ _ w2 c.copy_list-shape.ensures.grows in
-    let w4 = grow _ _ _ _ _ _ w3 c.copy_list-strides.ensures.grows in
-    let w5 = grow _ _ _ _ _ _ w4 c.copy_number-view.ensures.grows in
-    spare-room _ _ _ _ (omega arith) c.requires w5
-
-pub copy_byte_if-requires : goal.copy_byte_if-requires
-copy_byte_if-requires c =
-    let w1 = tag-within _ _ _ _ c.put_value.ensures.value c.requires in
-    let w2 = grow _ _ _ _ _ _ w1 c.copy_number-flags.ensures.grows in
-    let w3 = grow _ _ _ _ _ _ w2 c.copy_list-shape.ensures.grows in
-    let w4 = grow _ _ _ _ _ _ w3 c.copy_list-strides.ensures.grows in
-    let w5 = grow _ _ _ _ _ _ w4 c.copy_number-view.ensures.grows in
-    let w6 = grow _ _ _ _ _ _ w5 c.copy_list-dims.ensures.grows in
-    spare-room _ _ _ _ (omega arith) c.requires w6
-
-pub shape_of-sheet : goal.shape_of-sheet
-shape_of-sheet c =
-    omega (arith, c.sheet-7-1.given, c.sheet-6-1.given, c.sheet-5-1.given, c.sheet-4-1.given, c.sheet-3-1.given, c.sheet-2-1.given, c.sheet-1.given)
+pub returns-in_err-dims : goal.returns-in_err-dims
+returns-in_err-dims c =
+    let t = c.put_value-tag.ensures in
+    let p = err_from_is_err_and c.from_residual-in_err-dims.result c.from_residual-in_err-dims.ensures.1 in
+    rw (p.1, p.2)
+    (kind_of {x = strided_view_steps} strided-view-says c.args.at (omega arith) t.value t.sheet_after
+    (ran_more c.in_ok-flags.ensures (ran_more c.in_ok-shape.ensures (ran_more c.in_ok-strides.ensures (ran_more c.in_ok-view.ensures (ran-stop c.in_err-dims.ensures))))))
 
 pub returns : goal.returns
-unfolding strided_view_steps
 returns c =
-    let w1 = tag-within _ _ _ _ c.put_value.ensures.value c.requires in
-    let w2 = grow _ _ _ _ _ _ w1 c.copy_number-flags.ensures.grows in
-    let w3 = grow _ _ _ _ _ _ w2 c.copy_list-shape.ensures.grows in
-    let w4 = grow _ _ _ _ _ _ w3 c.copy_list-strides.ensures.grows in
-    let w5 = grow _ _ _ _ _ _ w4 c.copy_number-view.ensures.grows in
-    let w6 = grow _ _ _ _ _ _ w5 c.copy_list-dims.ensures.grows in
-    let w7 = grow _ _ _ _ _ _ w6 c.copy_byte_if.ensures.grows in
-    let f = value_of c.copy_number-flags.result in
-    let x6 = byte-told _ _ _ _ _ c.value_of.ensures c.copy_byte_if.ensures.copied in
-    let x5 = copied-then (listed I32) (λ _. as_word (byte_if f)) _ _ _ _ _ _ _ c.copy_list-dims.ensures.copied x6 in
-    let x4 = copied-then (as_word varint_at) (λ _. then (listed I32) (λ _. as_word (byte_if f))) _ _ _ _ _ _ _ c.copy_number-view.ensures.copied x5 in
-    let x3 = copied-then (listed I32) (λ _. then (as_word varint_at) (λ _. then (listed I32) (λ _. as_word (byte_if f)))) _ _ _ _ _ _ _ c.copy_list-strides.ensures.copied x4 in
-    let x2 = copied-then (listed I32) (λ _. then (listed I32) (λ _. then (as_word varint_at) (λ _. then (listed I32) (λ _. as_word (byte_if f))))) _ _ _ _ _ _ _ c.copy_list-shape.ensures.copied x3 in
-    let x1 = copied-then (as_word varint_at) (λ flags. then (listed I32) (λ _. then (listed I32) (λ _. then (as_word varint_at) (λ _. then (listed I32) (λ _. as_word (byte_if flags)))))) _ _ _ _ _ _ _ c.copy_number-flags.ensures.copied x2 in
-    record {
-      row = row_of _ strided_view_steps _ strided-view-says _ _ _ _ c.args.at _ _ c.put_value.ensures.value c.put_value.ensures.sheet_after x1;
-      within = within-most _ _ _ _ _ _ (omega arith) w7;
-    }
+    let t = c.put_value-tag.ensures in
+    kind_of {x = strided_view_steps} strided-view-says c.args.at (omega arith) t.value t.sheet_after
+    (ran_more c.in_ok-flags.ensures (ran_more c.in_ok-shape.ensures (ran_more c.in_ok-strides.ensures (ran_more c.in_ok-view.ensures (ran_more c.in_ok-dims.ensures (ran-last c.copy_byte_if.ensures))))))
