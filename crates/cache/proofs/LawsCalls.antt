@@ -18,15 +18,11 @@ use Rattle.format.specs.Views.{and_then}
 use Rattle.format.proofs.Decoded.{map-refused}
 use Rattle.sheet.specs.Store.{put_words}
 use Rattle.container.specs.declared.sections.Stopped.{Stopped}
-use Rattle.container.specs.declared.ViewRead.{ViewRead}
+use Rattle.container.specs.declared.View.{View}
 use Rattle.container.proofs.LawsViews.{view-only}
 use Rattle.reading.proofs.LawsShown.{only}
-use Rattle.payloads.specs.declared.FileRead.{FileRead}
-use Rattle.payloads.specs.declared.FileRead.TheVariants as read
 use Rattle.payloads.specs.Whole.{file_read, need_of}
 use Rattle.decoder.specs.Views.{Accepted}
-use Rattle.cache.specs.declared.SlotRead.{SlotRead}
-use Rattle.cache.specs.declared.SlotRead.TheVariants as slot
 use Rattle.slots.specs.Cache.{Slot, slot_of, slot_for, or_refused, put_in, drop_in}
 use Rattle.slots.specs.Lent.{Lent, slot_size, Good, slot_at, slots_up_to}
 use Rattle.slots.specs.Meaning.{cache_of, of_cache, put_answer, drop_answer, stored, afterwards, put_lent, drop_lent}
@@ -101,27 +97,27 @@ stored-left n k z bs ws s r b o e d p q = rw (e, p, q, d)
 
 module _ (answer : Lent → Read ℕ) (f : Lent → ℕ → Lent) where
   -- A call that writes and was refused, with what is there as it was ..
-  stays : (s : Lent) (r : SlotRead) (c m a : ℕ) → slot_read r ≡ refused c m a → answer s ≡ refused c m a →
+  stays : (s : Lent) (r : Result ℕ Stopped) (c m a : ℕ) → slot_read r ≡ refused c m a → answer s ≡ refused c m a →
       Writes answer (λ s. afterwards (f s) s (answer s)) s s r
   stays s r c m a e q = record { answered = e ∙ sym q; left = refused-left (f s) s (answer s) c m a q }
 
   -- .. for if it was refused, that is what it leaves.
-  unchanged : (s s' : Lent) (r : SlotRead) → Writes answer (λ s. afterwards (f s) s (answer s)) s s' r → (c m a : ℕ) →
+  unchanged : (s s' : Lent) (r : Result ℕ Stopped) → Writes answer (λ s. afterwards (f s) s (answer s)) s s' r → (c m a : ℕ) →
       slot_read r ≡ refused c m a → s' ≡ s
   unchanged s s' r w c m a e = w.left ∙ sym (refused-left (f s) s (answer s) c m a (sym w.answered ∙ e))
 
 -- So with a put ..
-pub put-stays : (n i : ℕ) (file : List ℕ) (s : Lent) (r : SlotRead) (c m a : ℕ) → slot_read r ≡ refused c m a →
+pub put-stays : (n i : ℕ) (file : List ℕ) (s : Lent) (r : Result ℕ Stopped) (c m a : ℕ) → slot_read r ≡ refused c m a →
     put_answer n i file s ≡ refused c m a → Writes (put_answer n i file) (put_lent n i file) s s r
 put-stays n i file = stays (put_answer n i file) (stored n file (1 ∷ i ∷ length file ∷ []))
 
 -- .. and with a drop.
-pub drop-stays : (n i : ℕ) (s : Lent) (r : SlotRead) (c m a : ℕ) → slot_read r ≡ refused c m a → drop_answer n i s ≡ refused c m a →
+pub drop-stays : (n i : ℕ) (s : Lent) (r : Result ℕ Stopped) (c m a : ℕ) → slot_read r ≡ refused c m a → drop_answer n i s ≡ refused c m a →
     Writes (drop_answer n i) (drop_lent n i) s s r
 drop-stays n i = stays (drop_answer n i) (stored n [] (0 ∷ 0 ∷ 0 ∷ []))
 
 -- All of what a put promises ..
-pub put_post : (n i : ℕ) (file : List ℕ) (s s' : Lent) (r : SlotRead) → i < 2 ^ 64 →
+pub put_post : (n i : ℕ) (file : List ℕ) (s s' : Lent) (r : Result ℕ Stopped) → i < 2 ^ 64 →
     Writes (put_answer n i file) (put_lent n i file) s s' r → PutPost n i file s s' r
 put_post n i file s s' r h w =
     record {
@@ -132,7 +128,7 @@ put_post n i file s s' r h w =
     }
 
 -- .. and a drop.
-pub drop-post : (n i : ℕ) (s s' : Lent) (r : SlotRead) → Writes (drop_answer n i) (drop_lent n i) s s' r → DropPost n i s s' r
+pub drop-post : (n i : ℕ) (s s' : Lent) (r : Result ℕ Stopped) → Writes (drop_answer n i) (drop_lent n i) s s' r → DropPost n i s s' r
 drop-post n i s s' r w =
     record {
       writes = w;
@@ -148,8 +144,8 @@ unfolding decode map_read
 accepted-decode file (x, e) = (only_tables x, rw e)
 
 -- A refusal is that of the file.
-pub measure-refused : (file : List ℕ) (x : Stopped) (r : FileRead) → r ≡ read.Stop x → file_read r ≡ map_read need_of (decode file) →
-    decode file ≡ refused x.no x.stage x.at
+pub measure-refused : (file : List ℕ) (x : Stopped) (r : Result Need Stopped) → r ≡ Err x → file_read r ≡ map_read need_of (decode file) →
+    decode file ≡ refused (number_of x.refusal) (stage_number x.stage) x.at
 measure-refused file x r e q = map-refused need_of (decode file) _ _ _ (sym q ∙ ap file_read e)
 
 -- A slot's bytes and then zeros, as the code puts them.
@@ -160,26 +156,26 @@ filled-up b x y bs at z h l p q =
     let m : length zeros ≡ z - length bs = length-replicate (z - length bs) 0 in
     q ∙ rw p (sym (put-append bs zeros b at (omega arith)))
 
-abbrev back_slot : Read ℕ → SlotRead
-back_slot (accepted k) = slot.Got k
-back_slot (refused c m a) = slot.Stop (record { no = c; stage = m; at = a })
+abbrev back_slot : Read ℕ → Result ℕ Stopped
+back_slot (accepted k) = Ok k
+back_slot (refused c m a) = Err (record { no = c; stage = m; at = a })
 
-same_slot : (r : SlotRead) → back_slot (slot_read r) ≡ r
-same_slot (slot.Got k) = refl
-same_slot (slot.Stop x) = refl
+same_slot : (r : Result ℕ Stopped) → back_slot (slot_read r) ≡ r
+same_slot (Ok k) = refl
+same_slot (Err x) = refl
 
 -- Two calls that write, of one answer and one effect: what they answer and leave is the same ..
-writes-only : {answer : Lent → Read ℕ} {leaves : Lent → Lent} {s s' s'' : Lent} {r q : SlotRead} →
+writes-only : {answer : Lent → Read ℕ} {leaves : Lent → Lent} {s s' s'' : Lent} {r q : Result ℕ Stopped} →
     Writes answer leaves s s' r → Writes answer leaves s s'' q → (r ≡ q) × (s' ≡ s'')
 writes-only x y = (only slot_read back_slot same_slot x.answered y.answered, x.left ∙ sym y.left)
 
 -- .. so that the contracts of the calls allow one result each.
-pub put_only : {n i : ℕ} {file : List ℕ} {s s' s'' : Lent} {r q : SlotRead} → PutPost n i file s s' r → PutPost n i file s s'' q →
+pub put_only : {n i : ℕ} {file : List ℕ} {s s' s'' : Lent} {r q : Result ℕ Stopped} → PutPost n i file s s' r → PutPost n i file s s'' q →
     (r ≡ q) × (s' ≡ s'')
 put_only x y = writes-only x.writes y.writes
 
-pub drop-only : {n i : ℕ} {s s' s'' : Lent} {r q : SlotRead} → DropPost n i s s' r → DropPost n i s s'' q → (r ≡ q) × (s' ≡ s'')
+pub drop-only : {n i : ℕ} {s s' s'' : Lent} {r q : Result ℕ Stopped} → DropPost n i s s' r → DropPost n i s s'' q → (r ≡ q) × (s' ≡ s'')
 drop-only x y = writes-only x.writes y.writes
 
-pub fetch-only : {n i k : ℕ} {s : Lent} {r q : ViewRead} → FetchPost n i k s r → FetchPost n i k s q → r ≡ q
+pub fetch-only : {n i k : ℕ} {s : Lent} {r q : Result View Stopped} → FetchPost n i k s r → FetchPost n i k s q → r ≡ q
 fetch-only x y = view-only x.answer y.answer

@@ -14,14 +14,12 @@ use Rattle.format.specs.Views.{Span, and_then, constants_in, constant_view, View
 use Rattle.format.proofs.Decoded.{map-inv}
 use Rattle.format.proofs.LawsStands.{stands-bytes}
 use Rattle.format.proofs.Viewed.{then-inv, constant-viewed}
-use Rattle.container.specs.declared.ViewRead.{ViewRead}
+use Rattle.container.specs.declared.View.{View}
 use Rattle.container.specs.Views.{view_of}
 use Rattle.slots.specs.Cache.{Slot, free, held, file_in, InSlot, slot_of, or_refused, drop_in, fetch_in}
 use Rattle.slots.specs.Lent.{Lent, length_at, slot_size, Good, slot_at, slots_up_to}
 use Rattle.slots.specs.Meaning.{cache_of, of_cache, fetch_answer, drop_answer, in_buffer}
 use Rattle.owners.specs.Owners.{RowOf}
-use Rattle.cache.specs.declared.SlotRead.{SlotRead}
-use Rattle.cache.specs.declared.SlotRead.TheVariants.{Got}
 use Rattle.cache.specs.Calls.{placed_at, OwnSlot, Fetched, FetchPost}
 use Rattle.slots.proofs.LawsSlots.{slots_at}
 use Rattle.slots.proofs.LawsStored.{good-cache, file_at, taken-slot}
@@ -135,7 +133,7 @@ module _ (n i : ℕ) (s : Lent) where
       }
 
   -- All of what a fetch promises.
-  pub fetch-post : (k : ℕ) (q : ViewRead) → view_of q ≡ map_read (in_buffer (slot_size n s.buffer)) (fetch_answer n i k s) →
+  pub fetch-post : (k : ℕ) (q : Result View Stopped) → view_of q ≡ map_read (in_buffer (slot_size n s.buffer)) (fetch_answer n i k s) →
       FetchPost n i k s q
   fetch-post k q e = record { answer = e; sound = λ p a. fetch-sound k p (sym e ∙ a) }
 
@@ -144,7 +142,7 @@ part-is : (b : List ℕ) (start size : ℕ) → take (start + size - start) (dro
 part-is b start size = let d : start + size - start ≡ size = omega arith in ap (λ j. take j (drop start b)) d
 
 -- What the view q of that part answers, at its place in the buffer.
-pub view-placed : (b : List ℕ) (start size k : ℕ) (q v : ViewRead) → q ≡ v →
+pub view-placed : (b : List ℕ) (start size k : ℕ) (q v : Result View Stopped) → q ≡ v →
     view_of q ≡ constant_view (take (start + size - start) (drop start b)) k →
     map_read (placed_at start) (view_of v) ≡ map_read (placed_at start) (constant_view (take size (drop start b)) k)
 view-placed b start size k q v e a =
@@ -159,11 +157,11 @@ view-begins b start size k p v h =
     omega (arith, m, (stands-bytes _ p.offset _ v.row.stands).1)
 
 -- The slot that was found is the one that a drop answers, ..
-pub own-found : (n i : ℕ) (b ws : List ℕ) (k : ℕ) (r : SlotRead) → OwnSlot (length b) ws n i r → r ≡ Got k →
+pub own-found : (n i : ℕ) (b ws : List ℕ) (k : ℕ) (r : Result ℕ Stopped) → OwnSlot (length b) ws n i r → r ≡ Got k →
     drop_answer n i (record { buffer = b; owners = ws }) ≡ accepted k
 own-found n i b ws k r o e = sym (rw e at (o b refl))
 
 -- .. and so the instance's.
-pub own-held : (n i : ℕ) (b ws : List ℕ) (z k : ℕ) (r : SlotRead) → z ≡ slot_size n b → OwnSlot (length b) ws n i r →
+pub own-held : (n i : ℕ) (b ws : List ℕ) (z k : ℕ) (r : Result ℕ Stopped) → z ≡ slot_size n b → OwnSlot (length b) ws n i r →
     r ≡ Got k → Holds n i z (record { buffer = b; owners = ws }) k
 own-held n i b ws z k r e o g = holds n i (record { buffer = b; owners = ws }) z k e (own-found n i b ws k r o g)

@@ -9,8 +9,6 @@ use mathlib.Core.List.{List}
 use lib.ListN.{length, get_or}
 use Rattle.exact.specs.Choice.{choose}
 use Rattle.exact.proofs.LawsChoice.{choose_yes, choose_no}
-use Rattle.owners.specs.declared.HeldRow.{HeldRow}
-use Rattle.owners.specs.declared.HeldRow.TheVariants as held
 use Rattle.slots.specs.Cache.{Slot, free, Free, is_free, is_held_by, lowest, slot_of, or_else}
 use Rattle.slots.specs.Lent.{Lent, mark_at, slot_size, Rows, Good, slot_at, slots_up_to}
 use Rattle.owners.specs.Owners.{rows_in, FreeRow, RowOf, FirstRow, Held, HeldAmong}
@@ -25,13 +23,13 @@ pub whole-size : (len n z : ℕ) → z ≡ len / n → z * n ≤ len
 whole-size len n z e = rw e (div-mul-le_self len n)
 
 -- What is said of an instance is the same where the rows have to be the same.
-held_same : {P Q : Type 0} (i n : ℕ) (owners : List ℕ) (r : HeldRow) → (P → Q) → (Q → P) → Held P i owners n r →
+held_same : {P Q : Type 0} (i n : ℕ) (owners : List ℕ) (r : std.Option ℕ) → (P → Q) → (Q → P) → Held P i owners n r →
     Held Q i owners n r
-held_same i n owners held.Bad to from bad = λ q. bad (from q)
-held_same i n owners (held.At k) to from (p, first) = (to p, first)
+held_same i n owners std.None to from bad = λ q. bad (from q)
+held_same i n owners (std.Some k) to from (p, first) = (to p, first)
 
 -- A buffer and an owner table of the right lengths are as good as the rows.
-pub judged-rows : (n len z i : ℕ) (owners : List ℕ) (r : HeldRow) → 0 < n → z ≡ len / n → z * n ≡ len → length owners % 24 ≡ 0 →
+pub judged-rows : (n len z i : ℕ) (owners : List ℕ) (r : std.Option ℕ) → 0 < n → z ≡ len / n → z * n ≡ len → length owners % 24 ≡ 0 →
     rows_in owners ≡ n → HeldAmong z i owners (rows_in owners) r → Judged len owners n i r
 judged-rows n len z i owners r h d a b c x buffer e =
     let q : z ≡ length buffer / n = d ∙ ap (λ m. m / n) (sym e) in

@@ -5,15 +5,15 @@ use Rattle.std.proofs.Math.Option.{Option, none, some}
 use Rattle.exact.specs.Choice.{choose}
 use Rattle.slots.specs.Cache.{slot_for}
 use Rattle.slots.specs.Lent.{Lent, Good, slot_at, slots_up_to}
-use Rattle.owners.specs.declared.HeldRow.{HeldRow}
+use Rattle.std.specs.Prelude as std
 use Rattle.owners.specs.Owners.{RowOf, FirstRow, Held}
 
 -- What is said of instance i, where a buffer and an owner table have to stand for a cache of n slots.
-abbrev pub HeldIn : ℕ → ℕ → Lent → HeldRow → Type 0
+abbrev pub HeldIn : ℕ → ℕ → Lent → std.Option ℕ → Type 0
 HeldIn n i s r = Held (Good n s) i s.owners n r
 
 -- What an owner table and a buffer of this length say of an instance, whatever the buffer's bytes are.
-abbrev pub Judged : ℕ → List ℕ → ℕ → ℕ → HeldRow → Type 0
+abbrev pub Judged : ℕ → List ℕ → ℕ → ℕ → std.Option ℕ → Type 0
 Judged len owners n i r = (b : List ℕ) → length b ≡ len → HeldIn n i (record { buffer = b; owners = owners }) r
 
 -- Row r of n as a slot; n is none.

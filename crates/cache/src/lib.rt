@@ -9,35 +9,14 @@ ghost use Rattle.format.specs.Views.{constant_view};
 ghost use Rattle.container.specs.Views.{view_of};
 ghost use Rattle.decoder.specs.Views.{Accepted};
 ghost use Rattle.sheet.specs.Store.{put_words};
-ghost use Rattle.owners.specs.declared.HeldRow.TheVariants as rows;
 ghost use Rattle.cache.specs.Judged.{HeldIn, Judged, SlotFrom};
 ghost use Rattle.slots.specs.Meaning.{put_answer, put_lent};
-ghost use Rattle.cache.specs.Calls.{call_refused, OwnSlot, placed_at, Writes, PutPost, FetchPost, DropPost};
+ghost use Rattle.cache.specs.Calls.{OwnSlot, placed_at, Writes, PutPost, FetchPost, DropPost};
 
+use container::View;
 use container::sections::Stopped;
-use container::{View, ViewRead};
-use enums::{Refusal, Stage};
-use owners::HeldRow;
-use payloads::FileRead;
+use enums::Refusal;
 use sheet::{put_word, word_at};
-
-// The slot of a call that was accepted; or why it was refused.
-#[derive(Clone, Copy)]
-pub enum SlotRead {
-    Got(usize),
-    Stop(Stopped),
-}
-
-// A refusal that is not the file's.
-fn stopped(no: u8) -> Stopped
-    ensures { result ≡ call_refused no }
-{
-    Stopped {
-        no,
-        stage: Stage::CALL,
-        at: 0,
-    }
-}
 
 // How many bytes a slot has: it is divided once.
 fn slot_size(len: usize, slots: usize) -> usize
@@ -51,21 +30,21 @@ fn slot_size(len: usize, slots: usize) -> usize
 
 // Judges whether a buffer of so many bytes, in slots of `size`, and an owner table stand for a cache, and finds the row that
 // an instance has in it.
-fn judged(len: usize, size: usize, owners: &[u8], slots: usize, instance: u64) -> HeldRow
+fn judged(len: usize, size: usize, owners: &[u8], slots: usize, instance: u64) -> Option<usize>
     requires { size ≡ len / slots }
     ensures { Judged len owners.now slots instance result }
 {
     if slots == 0 {
-        return HeldRow::Bad;
+        return None;
     }
     if size * slots != len {
-        return HeldRow::Bad;
+        return None;
     }
     if owners.len() % 24 != 0 {
-        return HeldRow::Bad;
+        return None;
     }
     if owners.len() / 24 != slots {
-        return HeldRow::Bad;
+        return None;
     }
     owners::held_row(owners, size as u64, instance)
 }
@@ -109,20 +88,20 @@ fn put_accepted(
     instance: u64,
     held: usize,
     file: &[u8],
-) -> SlotRead
-    requires { HeldIn slots instance (record { buffer = cache.old; owners = owners.old }) (rows.At held) × Accepted file.now × (size ≡ length cache.old / slots) }
+) -> Result<usize, Stopped>
+    requires { HeldIn slots instance (record { buffer = cache.old; owners = owners.old }) (Some held) × Accepted file.now × (size ≡ length cache.old / slots) }
     ensures { Writes (put_answer slots instance file.now) (put_lent slots instance file.now) (record { buffer = cache.old; owners = owners.old }) (record { buffer = cache.new; owners = owners.new }) result }
 {
     if size < file.len() {
-        return SlotRead::Stop(stopped(Refusal::FULL));
+        return Err(Stopped::call(Refusal::Full));
     }
     let slot = slot_for(owners, slots, held);
     if slot == slots {
-        return SlotRead::Stop(stopped(Refusal::NO_SLOT));
+        return Err(Stopped::call(Refusal::NoSlot));
     }
     fill_slot(cache, slot * size, size, file);
     put_row(owners, slot, 1, instance, file.len() as u64);
-    SlotRead::Got(slot)
+    Ok(slot)
 }
 
 // Puts a file for an instance: the cache is judged first, and then the file.
@@ -132,75 +111,79 @@ pub fn put(
     slots: usize,
     instance: u64,
     file: &[u8],
-) -> SlotRead
+) -> Result<usize, Stopped>
     ensures { PutPost slots instance file.now (record { buffer = cache.old; owners = owners.old }) (record { buffer = cache.new; owners = owners.new }) result }
 {
     let size = slot_size(cache.len(), slots);
-    let HeldRow::At(held) = judged(cache.len(), size, owners, slots, instance) else {
-        return SlotRead::Stop(stopped(Refusal::SHEET));
+    let Some(held) = judged(cache.len(), size, owners, slots, instance) else {
+        return Err(Stopped::call(Refusal::Sheet));
     };
-    match decoder::measure(file) {
-        FileRead::Stop(x) => SlotRead::Stop(x),
-        FileRead::Got(_) => put_accepted(cache, owners, slots, size, instance, held, file),
-    }
+    decoder::measure(file)?;
+    put_accepted(cache, owners, slots, size, instance, held, file)
 }
 
 // The slot that an instance holds in a cache, which is judged first.
-fn own_slot(len: usize, size: usize, owners: &[u8], slots: usize, instance: u64) -> SlotRead
+fn own_slot(
+    len: usize,
+    size: usize,
+    owners: &[u8],
+    slots: usize,
+    instance: u64,
+) -> Result<usize, Stopped>
     requires { size ≡ len / slots }
     ensures { OwnSlot len owners.now slots instance result }
 {
-    let HeldRow::At(slot) = judged(len, size, owners, slots, instance) else {
-        return SlotRead::Stop(stopped(Refusal::SHEET));
+    let Some(slot) = judged(len, size, owners, slots, instance) else {
+        return Err(Stopped::call(Refusal::Sheet));
     };
     if slot == slots {
-        return SlotRead::Stop(stopped(Refusal::ABSENT));
+        return Err(Stopped::call(Refusal::Absent));
     }
-    SlotRead::Got(slot)
+    Ok(slot)
 }
 
 // The constant of a file that lies in the buffer, and its place there.
-fn constant_in(cache: &[u8], start: usize, len: usize, index: u64) -> ViewRead
+fn constant_in(cache: &[u8], start: usize, len: usize, index: u64) -> Result<View, Stopped>
     requires { start + len ≤ length cache.now }
     ensures { view_of result ≡ map_read (placed_at start) (constant_view (take len (drop start cache.now)) index) }
 {
     let end = start + len;
-    match decoder::constant(&cache[start..end], index) {
-        ViewRead::Stop(x) => ViewRead::Stop(x),
-        ViewRead::Got(view) => ViewRead::Got(View {
-            start: start + view.start,
-            len: view.len,
-        }),
-    }
+    let view = decoder::constant(&cache[start..end], index)?;
+    Ok(View {
+        start: start + view.start,
+        len: view.len,
+    })
 }
 
 // The constant of the file that an instance has, and its place in the buffer. The file is judged, and exactly the length
 // that was kept.
-pub fn fetch(cache: &[u8], owners: &[u8], slots: usize, instance: u64, index: u64) -> ViewRead
+pub fn fetch(
+    cache: &[u8],
+    owners: &[u8],
+    slots: usize,
+    instance: u64,
+    index: u64,
+) -> Result<View, Stopped>
     ensures { FetchPost slots instance index (record { buffer = cache.now; owners = owners.now }) result }
 {
     let size = slot_size(cache.len(), slots);
-    match own_slot(cache.len(), size, owners, slots, instance) {
-        SlotRead::Stop(x) => ViewRead::Stop(x),
-        SlotRead::Got(slot) => {
-            let kept = word_at(owners, 3 * slot + 2) as usize;
-            constant_in(cache, slot * size, kept, index)
-        }
-    }
+    let slot = own_slot(cache.len(), size, owners, slots, instance)?;
+    let kept = word_at(owners, 3 * slot + 2) as usize;
+    constant_in(cache, slot * size, kept, index)
 }
 
 // Drops the file of an instance: the slot's bytes and its row become 0.
-pub fn drop(cache: &mut [u8], owners: &mut [u8], slots: usize, instance: u64) -> SlotRead
+pub fn drop(
+    cache: &mut [u8],
+    owners: &mut [u8],
+    slots: usize,
+    instance: u64,
+) -> Result<usize, Stopped>
     ensures { DropPost slots instance (record { buffer = cache.old; owners = owners.old }) (record { buffer = cache.new; owners = owners.new }) result }
 {
     let size = slot_size(cache.len(), slots);
-    match own_slot(cache.len(), size, owners, slots, instance) {
-        SlotRead::Stop(x) => SlotRead::Stop(x),
-        SlotRead::Got(slot) => {
-            let none: [u8; 0] = [];
-            fill_slot(cache, slot * size, size, &none);
-            put_row(owners, slot, 0, 0, 0);
-            SlotRead::Got(slot)
-        }
-    }
+    let slot = own_slot(cache.len(), size, owners, slots, instance)?;
+    fill_slot(cache, slot * size, size, &[]);
+    put_row(owners, slot, 0, 0, 0);
+    Ok(slot)
 }

@@ -3,61 +3,44 @@
 #![tactic(auto)]
 
 use container::sections::Stopped;
-use decoder::FileRead;
 use encoding::{EncodingWriter, FloatType, Written};
-use reading::{ByteRead, I64Read, NumRead, Reader, Refused};
+use reading::{Reader, Refused};
 use std::io;
 
-// A number, in decimal, and what follows it.
-fn show(rt: &impl Print, n: u64, then: &str) -> io::Result<()> {
-    print!(rt; "{n}{then}")
-}
-
-// A signed number, as its 64 bits.
-fn show_signed(rt: &impl Print, n: i64, then: &str) -> io::Result<()> {
-    let bits = encoding::bits_of_i64(n);
-    print!(rt; "{bits:016x}{then}")
-}
-
-// A byte of the data, in hexadecimal, behind a space.
-fn show_byte(rt: &impl Print, data: &[u8], at: usize) -> io::Result<()> {
-    let reader = Reader { pos: at };
-    match reader.read_byte(data) {
-        ByteRead::Got(b, _) => print!(rt; " {b:02x}"),
-        ByteRead::Stop(x) => show_refused(rt, x),
-    }
-}
-
-// The bytes of the data below a place, and a line's end.
+// The bytes of the data below a place, each in hexadecimal behind a space, and a line's end.
 fn show_bytes(rt: &impl Print, data: &[u8], upto: usize) -> io::Result<()> {
-    let mut at = 0;
-    while at < upto {
-        show_byte(rt, data, at)?;
-        at += 1;
+    for b in data.iter().take(upto) {
+        print!(rt; " {b:02x}")?;
     }
     println!(rt; "")
 }
 
 fn show_refused(rt: &impl Print, x: Refused) -> io::Result<()> {
-    print!(rt; " refused ")?;
-    show(rt, x.no as u64, " at ")?;
-    show(rt, x.at as u64, "\n")
+    let no = x.refusal.number();
+    let at = x.at;
+    println!(rt; " refused {no} at {at}")
+}
+
+fn show_stopped(rt: &impl Print, x: Stopped) -> io::Result<()> {
+    let no = x.refusal.number();
+    let stage = x.stage.number();
+    println!(rt; "refused {no} in stage {stage}")
 }
 
 // What a writer left in the output: the bytes before its place, or the refusal's number.
 fn show_written(rt: &impl Print, out: &[u8], r: Written) -> io::Result<()> {
     match r {
-        Written::Next(w) => show_bytes(rt, out, w.tell()),
-        Written::Refused(no) => {
-            print!(rt; " refused ")?;
-            show(rt, no as u64, "\n")
+        Ok(w) => show_bytes(rt, out, w.tell()),
+        Err(refusal) => {
+            let no = refusal.number();
+            println!(rt; " refused {no}")
         }
     }
 }
 
 fn write_varint(rt: &impl Print, value: u64) -> io::Result<()> {
     let mut out = [0u8; 10];
-    show(rt, value, " writes")?;
+    print!(rt; "{value} writes")?;
     let r = EncodingWriter::new().write_varint(&mut out, value);
     show_written(rt, &out, r)
 }
@@ -65,39 +48,44 @@ fn write_varint(rt: &impl Print, value: u64) -> io::Result<()> {
 // Room for two bytes alone.
 fn write_varint_short(rt: &impl Print, value: u64) -> io::Result<()> {
     let mut out = [0u8; 2];
-    show(rt, value, " into two bytes writes")?;
+    print!(rt; "{value} into two bytes writes")?;
     let r = EncodingWriter::new().write_varint(&mut out, value);
     show_written(rt, &out, r)
 }
 
+// A signed number, shown as its 64 bits.
 fn write_signed(rt: &impl Print, value: i64) -> io::Result<()> {
     let mut out = [0u8; 10];
-    show_signed(rt, value, " writes")?;
+    let bits = encoding::bits_of_i64(value);
+    print!(rt; "{bits:016x} writes")?;
     let r = EncodingWriter::new().write_signed_varint(&mut out, value);
     show_written(rt, &out, r)
 }
 
 fn read_varint(rt: &impl Print, data: &[u8]) -> io::Result<()> {
-    print!(rt; "reads")?;
     match Reader::new().read_varint(data) {
-        NumRead::Got(v, r) => {
-            print!(rt; " ")?;
-            show(rt, v, " up to ")?;
-            show(rt, r.pos as u64, "\n")
+        Ok((v, r)) => {
+            let next = r.pos;
+            println!(rt; "reads {v} up to {next}")
         }
-        NumRead::Stop(x) => show_refused(rt, x),
+        Err(x) => {
+            print!(rt; "reads")?;
+            show_refused(rt, x)
+        }
     }
 }
 
 fn read_signed(rt: &impl Print, data: &[u8]) -> io::Result<()> {
-    print!(rt; "reads")?;
     match Reader::new().read_signed_varint(data) {
-        I64Read::Got(v, r) => {
-            print!(rt; " ")?;
-            show_signed(rt, v, " up to ")?;
-            show(rt, r.pos as u64, "\n")
+        Ok((v, r)) => {
+            let bits = encoding::bits_of_i64(v);
+            let next = r.pos;
+            println!(rt; "reads {bits:016x} up to {next}")
         }
-        I64Read::Stop(x) => show_refused(rt, x),
+        Err(x) => {
+            print!(rt; "reads")?;
+            show_refused(rt, x)
+        }
     }
 }
 
@@ -111,29 +99,24 @@ fn convert(rt: &impl Print, bits: u64) -> io::Result<()> {
     show_written(rt, &out, r)
 }
 
-fn show_stopped(rt: &impl Print, x: Stopped) -> io::Result<()> {
-    print!(rt; "refused ")?;
-    show(rt, x.no as u64, " in stage ")?;
-    show(rt, x.stage as u64, "\n")
-}
-
 // How large the stores of a file have to be, and then what it leaves in stores of 22 words and 4 bytes.
 fn read_file(rt: &impl Print, file: &[u8]) -> io::Result<()> {
     match decoder::measure(file) {
-        FileRead::Got(need) => {
-            show(rt, need.words as u64, " words and ")?;
-            show(rt, need.bytes as u64, " bytes\n")?;
+        Ok(need) => {
+            let words = need.words;
+            let bytes = need.bytes;
+            println!(rt; "{words} words and {bytes} bytes")?;
         }
-        FileRead::Stop(x) => show_stopped(rt, x)?,
+        Err(x) => show_stopped(rt, x)?,
     }
     let mut sheet = [0xEEu8; 176];
     let mut pool = [0xEEu8; 4];
     match decoder::read(file, &mut sheet, &mut pool) {
-        FileRead::Got(_) => {
+        Ok(_) => {
             show_bytes(rt, &sheet, 176)?;
             show_bytes(rt, &pool, 4)
         }
-        FileRead::Stop(x) => show_stopped(rt, x),
+        Err(x) => show_stopped(rt, x),
     }
 }
 
@@ -142,8 +125,8 @@ fn read_short(rt: &impl Print, file: &[u8]) -> io::Result<()> {
     let mut sheet = [0xEEu8; 160];
     let mut pool = [0xEEu8; 4];
     match decoder::read(file, &mut sheet, &mut pool) {
-        FileRead::Got(_) => println!(rt; "read"),
-        FileRead::Stop(x) => {
+        Ok(_) => println!(rt; "read"),
+        Err(x) => {
             show_stopped(rt, x)?;
             show_bytes(rt, &sheet, 8)?;
             show_bytes(rt, &pool, 4)
@@ -152,22 +135,16 @@ fn read_short(rt: &impl Print, file: &[u8]) -> io::Result<()> {
 }
 
 fn numbers(rt: &impl Print) -> io::Result<()> {
-    write_varint(rt, 0)?;
-    write_varint(rt, 127)?;
-    write_varint(rt, 128)?;
-    write_varint(rt, 16383)?;
-    write_varint(rt, 16384)?;
-    write_varint(rt, 9223372036854775808)?;
-    write_varint(rt, 18446744073709551615)?;
-    write_varint_short(rt, 16383)?;
-    write_varint_short(rt, 16384)?;
-    write_signed(rt, 0)?;
-    write_signed(rt, -1)?;
-    write_signed(rt, 1)?;
-    write_signed(rt, -64)?;
-    write_signed(rt, 64)?;
-    write_signed(rt, 9223372036854775807)?;
-    write_signed(rt, -9223372036854775808)
+    for value in [0, 127, 128, 16383, 16384, 1 << 63, u64::MAX] {
+        write_varint(rt, value)?;
+    }
+    for value in [16383, 16384] {
+        write_varint_short(rt, value)?;
+    }
+    for value in [0, -1, 1, -64, 64, i64::MAX, i64::MIN] {
+        write_signed(rt, value)?;
+    }
+    Ok(())
 }
 
 fn reads(rt: &impl Print) -> io::Result<()> {
@@ -184,16 +161,22 @@ fn reads(rt: &impl Print) -> io::Result<()> {
 }
 
 fn floats(rt: &impl Print) -> io::Result<()> {
-    convert(rt, 0x0000_0000_0000_0000)?;
-    convert(rt, 0x8000_0000_0000_0000)?;
-    convert(rt, 0x0000_0000_0000_0001)?;
-    convert(rt, 0x3FF0_0000_0000_0000)?;
-    convert(rt, 0xBFF8_0000_0000_0000)?;
-    convert(rt, 0x407C_0000_0000_0000)?;
-    convert(rt, 0x407D_0000_0000_0000)?;
-    convert(rt, 0xFFF0_0000_0000_0000)?;
-    convert(rt, 0x7FF8_0000_0000_0000)?;
-    convert(rt, 0xFFF8_0000_0000_0000)
+    let bits: [u64; 10] = [
+        0x0000_0000_0000_0000,
+        0x8000_0000_0000_0000,
+        0x0000_0000_0000_0001,
+        0x3FF0_0000_0000_0000,
+        0xBFF8_0000_0000_0000,
+        0x407C_0000_0000_0000,
+        0x407D_0000_0000_0000,
+        0xFFF0_0000_0000_0000,
+        0x7FF8_0000_0000_0000,
+        0xFFF8_0000_0000_0000,
+    ];
+    for b in bits {
+        convert(rt, b)?;
+    }
+    Ok(())
 }
 
 fn files(rt: &impl Print) -> io::Result<()> {

@@ -17,14 +17,14 @@ use Rattle.encoding.specs.Floats as floats
 use Rattle.encoding.proofs.LawsFloats.{float-bytes-only}
 use Rattle.encoding.specs.declared.EncodingWriter.{EncodingWriter}
 use Rattle.encoding.specs.declared.FloatType.{FloatType}
-use Rattle.encoding.specs.declared.Written.{Written}
+use Rattle.std.specs.Prelude.{Result, Ok, Err}
+use Rattle.enums.specs.declared.Refusal.{Refusal}
+use Rattle.reading.specs.declared.Reader.{Reader}
+use Rattle.reading.specs.declared.Refused.{Refused}
+use Rattle.reading.specs.declared.Items.{Items}
 use Rattle.reading.specs.Shown.{got_bytes, got_items}
-use Rattle.reading.specs.declared.BytesRead.{BytesRead}
-use Rattle.reading.specs.declared.BytesRead.TheVariants as bytes
-use Rattle.reading.specs.declared.ItemsRead.{ItemsRead}
-use Rattle.reading.specs.declared.ItemsRead.TheVariants as array
-use Rattle.tikomuci.specs.declared.Answer.{Answer}
-use Rattle.tikomuci.specs.Boundary.{refused_as, Puts, Writes, WritesFloat, next_place, reached, run, run_of, items, items_of}
+use Rattle.tikomuci.specs.declared.answers.Answer.{Answer}
+use Rattle.tikomuci.specs.Boundary.{refused_as, refusal_of, pair_by, shown_by, Puts, Writes, WritesFloat, next_place, reached, run, items}
 
 -- An answer that shows x, which is known to be y, shows y.
 pub told : {A : Type 0} (f : A → Answer) {r : Answer} {x y : A} → r ≡ f x → x ≡ y → r ≡ f y
@@ -36,7 +36,7 @@ pub puts : (f : Wrote → Answer) {n at required : ℕ} {bs out out' : List ℕ}
 puts f e p = record { answer = told f e p.answer; output = p.output }
 
 -- The same of a float attribute.
-pub puts-float : {w : EncodingWriter} {bits : ℕ} {ty : FloatType} {out out' : List ℕ} {r : Answer} {x : Written} → w.required_alignment ≡ 1 →
+pub puts-float : {w : EncodingWriter} {bits : ℕ} {ty : FloatType} {out out' : List ℕ} {r : Answer} {x : Result EncodingWriter Refusal} → w.required_alignment ≡ 1 →
     r ≡ next_place (below.wrote_of x) → floats.WritesFloat w bits ty out out' x → WritesFloat w.at bits ty out out' r
 puts-float e f p = record { bytes = p.bytes; spelt = p.spelt; written = rw (← e) (puts next_place f p.written) }
 
@@ -50,15 +50,20 @@ shown-past f refuses p l i {r} {a} e h = e ∙ go (dec_le i (length l))
     go (yes k) = choose_yes (yes k) _ _ k ∙ h ∙ ap f (sym (choose_yes (yes k) _ _ k))
     go (no k) = choose_no (no k) _ _ k ∙ sym (refuses refusals.short i) ∙ ap f (sym (choose_no (no k) _ _ k))
 
+-- A refused read.
+abbrev pub refused_of : Refused → Answer
+refused_of x = refusal_of x.refusal
+
 -- A run is answered by its places, whatever the data ..
-pub run-of : (s : List ℕ) (r : BytesRead) → run_of r ≡ run (got_bytes s r)
-run-of s (bytes.Got start r) = refl
-run-of s (bytes.Stop x) = refl
+pub run-of : (s : List ℕ) (r : Result (ℕ × Reader) Refused) → shown_by (pair_by (λ v. v)) refused_of r ≡ run (got_bytes s r)
+run-of s (Ok x) = refl
+run-of s (Err x) = refl
 
 -- .. and a counted array by its count.
-pub items-of : (w : ℕ) (s : List ℕ) (r : ItemsRead) → items_of r ≡ items (got_items w s r)
-items-of w s (array.Got i r) = rw (length-nums i.count w (drop i.start s))
-items-of w s (array.Stop x) = refl
+pub items-of : (w : ℕ) (s : List ℕ) (r : Result (Items × Reader) Refused) →
+    shown_by (pair_by (λ v. v.count)) refused_of r ≡ items (got_items w s r)
+items-of w s (Ok (i, r)) = rw (length-nums i.count w (drop i.start s))
+items-of w s (Err x) = refl
 
 -- Two results of one call are equal, answer and output alike.
 pub puts-only : {f : Wrote → Answer} {n at required : ℕ} {bs out a b : List ℕ} {r s : Answer} →

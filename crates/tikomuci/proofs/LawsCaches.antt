@@ -19,7 +19,7 @@ use Rattle.slots.specs.Lent.{Lent, slot_size, SlotKept}
 use Rattle.slots.specs.Meaning.{cache_of, of_cache, put_answer, fetch_answer, drop_answer, in_buffer}
 use Rattle.cache.specs.Calls.{slot_read, Writes, PutPost, DropPost, FetchPost}
 use Rattle.cache.specs.declared.SlotRead.{SlotRead}
-use Rattle.tikomuci.specs.declared.Answer.{Answer}
+use Rattle.tikomuci.specs.declared.answers.Answer.{Answer}
 use Rattle.tikomuci.specs.Views.{view, span_in}
 use Rattle.tikomuci.specs.Caches.{slot, Changes, CachePut, CacheDropped, CacheFetched}
 use Rattle.tikomuci.proofs.LawsBoundary.{told}

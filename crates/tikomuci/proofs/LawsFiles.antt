@@ -13,7 +13,7 @@ use Rattle.format.proofs.Stored.{into-listed, into-after, sheet-after, pool-afte
 use Rattle.payloads.specs.declared.FileRead.{FileRead}
 use Rattle.payloads.specs.Whole.{need_of, file_read}
 use Rattle.decoder.specs.File.{MeasurePost, ReadPost}
-use Rattle.tikomuci.specs.declared.Answer.{Answer}
+use Rattle.tikomuci.specs.declared.answers.Answer.{Answer}
 use Rattle.tikomuci.specs.Files.{needed, size_in, Measured, FileDone}
 use Rattle.tikomuci.proofs.LawsBoundary.{told}
 use Rattle.tikomuci.proofs.LawsTold.{need-told, need-refused}

@@ -11,7 +11,7 @@ use Rattle.images.specs.declared.Imaged.{Imaged}
 use Rattle.names.specs.Names.{name_for, with_name, name_read}
 use Rattle.names.specs.declared.Named.{Named}
 use Rattle.writer.specs.Written.{WritePost, ImagePost}
-use Rattle.tikomuci.specs.declared.Answer.{Answer}
+use Rattle.tikomuci.specs.declared.answers.Answer.{Answer}
 use Rattle.tikomuci.specs.Sheets.{size, SheetWritten, SheetImaged, TypeNamed}
 use Rattle.tikomuci.proofs.LawsTold.{room-told, length-told, size-refused}
 

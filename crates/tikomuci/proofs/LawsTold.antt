@@ -22,7 +22,7 @@ use Rattle.sheet.specs.Store.{words_in}
 use Rattle.payloads.specs.declared.Need.{Need}
 use Rattle.images.specs.Written.{length_of, in_room}
 use Rattle.writer.specs.Written.{writing, writing_alone}
-use Rattle.tikomuci.specs.declared.Answer.{Answer}
+use Rattle.tikomuci.specs.declared.answers.Answer.{Answer}
 use Rattle.tikomuci.specs.Files.{needed, size_in}
 use Rattle.tikomuci.specs.Views.{view, span_in}
 use Rattle.tikomuci.specs.Sheets.{size}

@@ -12,7 +12,7 @@ use Rattle.format.proofs.AfterEnd.{row-view-after, section-view-after}
 use Rattle.container.specs.Views.{SectionPost, view_of}
 use Rattle.container.specs.declared.ViewRead.{ViewRead}
 use Rattle.decoder.specs.Views.{RowPost}
-use Rattle.tikomuci.specs.declared.Answer.{Answer}
+use Rattle.tikomuci.specs.declared.answers.Answer.{Answer}
 use Rattle.tikomuci.specs.Views.{view, span_in, SectionViewed, RowViewed}
 use Rattle.tikomuci.proofs.LawsBoundary.{told}
 use Rattle.tikomuci.proofs.LawsTold.{span-told}

@@ -1,20 +1,20 @@
 -- The answer that crosses the C boundary, as a function of what the crates below answer (document 01, "Refusal numbers": a
 -- refusal returns its number and the stage and no other data; single-number calls are of stage 10).
-use Rattle.std.specs.Prelude.{◌≡◌, ℕ, ◌-◌, List, ℤ, length}
+use Rattle.std.specs.Prelude.{◌≡◌, ℕ, ◌-◌, List, ℤ, length, Result, Ok, Err}
 use Rattle.std.proofs.Math.Decide.{dec_le}
 use Rattle.exact.specs.Got.{Got, got, stop}
 use Rattle.exact.specs.Exact.{Parser}
 use Rattle.exact.specs.Choice.{choose}
 use Rattle.enums.specs.Refusals as refusals
+use Rattle.enums.specs.Numbered.{number_of, stage_number}
+use Rattle.enums.specs.declared.Refusal.{Refusal}
 use Rattle.encoding.specs.Out.{Wrote, wrote, refused, put, after}
 use Rattle.encoding.specs.Signed.{pattern}
 use Rattle.encoding.specs.Floats.{FloatBytes}
 use Rattle.encoding.specs.declared.FloatType.{FloatType}
-use Rattle.reading.specs.declared.BytesRead.{BytesRead}
-use Rattle.reading.specs.declared.BytesRead.TheVariants as bytes
-use Rattle.reading.specs.declared.ItemsRead.{ItemsRead}
-use Rattle.reading.specs.declared.ItemsRead.TheVariants as array
-use Rattle.tikomuci.specs.declared.Answer.{Answer}
+use Rattle.reading.specs.declared.Reader.{Reader}
+use Rattle.container.specs.declared.sections.Stopped.{Stopped}
+use Rattle.tikomuci.specs.declared.answers.Answer.{Answer}
 
 -- The number of this boundary: of its names, their parameters, and the answer.
 abbrev pub abi : ℕ
@@ -27,6 +27,23 @@ accepted a b = record { refusal = 0; stage = 0; first = a; second = b }
 -- The refusal of a call that reads no container.
 abbrev pub refused_as : ℕ → Answer
 refused_as n = record { refusal = n; stage = refusals.at_call; first = 0; second = 0 }
+
+-- A refusal as the crates below know it ..
+abbrev pub refusal_of : Refusal → Answer
+refusal_of x = refused_as (number_of x)
+
+-- .. and one of a file, with its stage.
+abbrev pub stopped_of : Stopped → Answer
+stopped_of x = record { refusal = number_of x.refusal; stage = stage_number x.stage; first = 0; second = 0 }
+
+-- What was read, by the number that its value stands for, and the next place.
+abbrev pub pair_by : {T : Type 0} → (T → ℕ) → T × Reader → Answer
+pair_by number x = accepted (number x.0) x.1.pos
+
+-- What a call handed out, or why it was refused.
+abbrev pub shown_by : {T E : Type 0} → (T → Answer) → (E → Answer) → Result T E → Answer
+shown_by value refusal (Ok v) = value v
+shown_by value refusal (Err x) = refusal x
 
 -- A writer: the next place.
 abbrev pub next_place : Wrote → Answer
@@ -57,20 +74,10 @@ abbrev pub run : Got (ℕ × List ℕ) → Answer
 run (got v j) = accepted v.0 j
 run (stop c k) = refused_as c
 
--- The same of what the reader answers.
-abbrev pub run_of : BytesRead → Answer
-run_of (bytes.Got start r) = accepted start r.pos
-run_of (bytes.Stop x) = refused_as x.no
-
 -- A counted array: how many numbers, and the next place.
 abbrev pub items : Got (ℕ × List ℕ) → Answer
 items (got v j) = accepted (length v.1) j
 items (stop c k) = refused_as c
-
--- The same of what the reader answers.
-abbrev pub items_of : ItemsRead → Answer
-items_of (array.Got i r) = accepted i.count r.pos
-items_of (array.Stop x) = refused_as x.no
 
 -- Padding from a place on: how many bytes, and the next place.
 abbrev pub skipped : ℕ → Got (Unit {0}) → Answer

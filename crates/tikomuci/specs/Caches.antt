@@ -7,7 +7,7 @@ use Rattle.slots.specs.Cache.{Slot, put_after, drop_after}
 use Rattle.slots.specs.Lent.{Lent, slot_size, SlotKept, SlotCleared}
 use Rattle.slots.specs.Meaning.{cache_of, put_answer, fetch_answer, drop_answer, in_buffer, put_lent, drop_lent}
 use Rattle.cache.specs.Calls.{Fetched}
-use Rattle.tikomuci.specs.declared.Answer.{Answer}
+use Rattle.tikomuci.specs.declared.answers.Answer.{Answer}
 use Rattle.tikomuci.specs.Views.{view, span_in}
 use Rattle.tikomuci.specs.Sheets.{size}
 

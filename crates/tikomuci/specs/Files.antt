@@ -9,7 +9,7 @@ use Rattle.format.specs.Sheet.{sheet_of, pool_of}
 use Rattle.format.specs.Stores.{read_into, sheet_after, pool_after, Stored}
 use Rattle.payloads.specs.declared.Need.{Need}
 use Rattle.payloads.specs.Whole.{need_of}
-use Rattle.tikomuci.specs.declared.Answer.{Answer}
+use Rattle.tikomuci.specs.declared.answers.Answer.{Answer}
 use Rattle.tikomuci.specs.Boundary as boundary
 
 -- Words of the sheet and bytes of the pool; or the refusal's number and its stage, and no other data.

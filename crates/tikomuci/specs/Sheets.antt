@@ -12,7 +12,7 @@ use Rattle.sheet.specs.Store.{words_in}
 use Rattle.images.specs.Written.{length_of, in_room, with_image}
 use Rattle.names.specs.Names.{name_for, with_name}
 use Rattle.writer.specs.Written.{writing, writing_alone, Kept, Sized}
-use Rattle.tikomuci.specs.declared.Answer.{Answer}
+use Rattle.tikomuci.specs.declared.answers.Answer.{Answer}
 use Rattle.tikomuci.specs.Boundary as boundary
 
 -- The length of the image; or the refusal's number and its stage, and no other data.

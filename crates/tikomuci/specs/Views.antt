@@ -7,7 +7,7 @@ use Rattle.format.specs.Decode.{most_bytes}
 use Rattle.format.specs.Explains.{Placed, Layout}
 use Rattle.format.specs.Views.{Span, section_view, span_of, row_view, Viewed}
 use Rattle.container.specs.Views.{SectionAt}
-use Rattle.tikomuci.specs.declared.Answer.{Answer}
+use Rattle.tikomuci.specs.declared.answers.Answer.{Answer}
 use Rattle.tikomuci.specs.Boundary as boundary
 
 -- Offset and length; or the refusal's number and its stage, and no other data.

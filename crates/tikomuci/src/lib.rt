@@ -2,6 +2,8 @@
 // the answer struct; a refused call changes no lent memory.
 #![tactic(auto)]
 
+mod answers;
+
 ghost use Rattle.std.specs.Prelude.{◌≡◌, ◌-◌, [], ◌∷◌, map, length, replicate};
 ghost use Rattle.std.proofs.Math.Decide.{dec_le};
 ghost use Rattle.exact.specs.Basic.{byte};
@@ -13,36 +15,21 @@ ghost use Rattle.enums.specs.Refusals as refusals;
 ghost use Rattle.float8.specs.Formats.{E4M3FN, E5M2};
 ghost use Rattle.encoding.specs.declared.FloatType.TheVariants.{F64, F8E4M3FN, F8E5M2};
 ghost use Rattle.encoding.specs.Out.{counted_bytes, required};
-ghost use Rattle.encoding.specs.Shown.{wrote_of, patched_of};
 ghost use Rattle.encoding.specs.Signed.{zigzag, pattern};
 ghost use Rattle.encoding.specs.Varint.{spelling};
 ghost use Rattle.reading.specs.Numbers.{varint_at, signed_varint_at, signed_at, padding_at, items_at, remaining_at, placed};
-ghost use Rattle.reading.specs.Shown.{got_byte, got_u16, got_u32, got_num, got_i32, got_i64, got_padding};
 ghost use Rattle.enums.specs.Container.{string_id, constant_id, func_id};
 ghost use Rattle.format.specs.Views.{strings_in, constants_in, bodies_in};
-ghost use Rattle.container.specs.Views.{view_of};
-ghost use Rattle.payloads.specs.Whole.{file_read};
-ghost use Rattle.tikomuci.specs.Boundary.{abi, accepted, refused_as, Puts, Writes, WritesFloat, Patches, next_place, next_aligned, number, signed_number, reached, run, run_of, items, items_of, skipped};
-ghost use Rattle.tikomuci.specs.Views.{view, SectionViewed, RowViewed};
-ghost use Rattle.tikomuci.specs.Files.{needed, Measured, FileDone};
-ghost use Rattle.images.specs.Written.{image_size};
-ghost use Rattle.names.specs.Names.{name_read};
-ghost use Rattle.tikomuci.specs.Sheets.{size, SheetWritten, SheetImaged, TypeNamed};
-ghost use Rattle.cache.specs.Calls.{slot_read};
-ghost use Rattle.tikomuci.specs.Caches.{cache_slots, session_slots, slot, CachePut, CacheFetched, CacheDropped};
+ghost use Rattle.tikomuci.specs.Boundary.{abi, refused_as, Puts, Writes, WritesFloat, Patches, next_place, next_aligned, number, signed_number, reached, run, items, skipped};
+ghost use Rattle.tikomuci.specs.Views.{SectionViewed, RowViewed};
+ghost use Rattle.tikomuci.specs.Files.{Measured, FileDone};
+ghost use Rattle.tikomuci.specs.Sheets.{SheetWritten, SheetImaged, TypeNamed};
+ghost use Rattle.tikomuci.specs.Caches.{cache_slots, session_slots, CachePut, CacheFetched, CacheDropped};
 
-use cache::SlotRead;
-use container::ViewRead;
-use container::sections::Stopped;
-use decoder::FileRead;
-use encoding::{EncodingWriter, FloatType, Patched, Written};
-use enums::{Refusal, Stage};
-use images::Imaged;
-use names::Named;
-use reading::{
-    ByteRead, BytesRead, I32Read, I64Read, ItemsRead, NumRead, PaddingRead, Reader, U16Read,
-    U32Read,
-};
+use answers::{Answer, Shown};
+use encoding::{EncodingWriter, FloatType};
+use enums::Refusal;
+use reading::Reader;
 
 const ABI: u64 = 1;
 
@@ -52,188 +39,21 @@ const CACHE_SLOTS: usize = 16;
 // .. and those for the sixty tracks of one session.
 const SESSION_SLOTS: usize = 64;
 
-// What every call that can be refused answers.
-#[repr(C)]
-#[derive(Clone, Copy)]
-pub struct Answer {
-    // 0, or document 01's number
-    pub refusal: u64,
-    // of a refusal; else 0
-    pub stage: u64,
-    // of an acceptance, see each call; else 0
-    pub first: u64,
-    pub second: u64,
-}
-
-impl Answer {
-    // An acceptance, with its two numbers.
-    fn accept(first: u64, second: u64) -> Self
-        ensures { result ≡ accepted first second }
-    {
-        Self {
-            refusal: 0,
-            stage: 0,
-            first,
-            second,
-        }
-    }
-
-    // The refusal of a call that reads no container.
-    fn refuse(code: u8) -> Self
-        ensures { result ≡ refused_as code }
-    {
-        Self {
-            refusal: code as u64,
-            stage: Stage::CALL as u64,
-            first: 0,
-            second: 0,
-        }
-    }
-
-    // A refusal, by its number and its stage.
-    fn stop(stopped: Stopped) -> Self
-        ensures { result ≡ record { refusal = stopped.no; stage = stopped.stage; first = 0; second = 0 } }
-    {
-        Self {
-            refusal: stopped.no as u64,
-            stage: stopped.stage as u64,
-            first: 0,
-            second: 0,
-        }
-    }
-}
-
-// A writer's answer: the next place.
-fn written(w: Written) -> Answer
-    ensures { result ≡ next_place (wrote_of w) }
+// A writer at a place, of which no alignment was asked.
+fn writer(at: u64) -> EncodingWriter
+    ensures { result ≡ record { at = at; required_alignment = 1 } }
 {
-    match w {
-        Written::Next(next) => Answer::accept(next.at as u64, 0),
-        Written::Refused(code) => Answer::refuse(code),
+    EncodingWriter {
+        at: at as usize,
+        required_alignment: 1,
     }
 }
 
-// The same, with the alignment that is required now.
-fn aligned(w: Written) -> Answer
-    ensures { result ≡ next_aligned (wrote_of w) }
+// A reader at a place.
+fn reader(at: u64) -> Reader
+    ensures { result ≡ record { pos = at } }
 {
-    match w {
-        Written::Next(next) => Answer::accept(next.at as u64, next.required_alignment),
-        Written::Refused(code) => Answer::refuse(code),
-    }
-}
-
-// A patch's answer: the place behind it.
-fn patched(p: Patched) -> Answer
-    ensures { result ≡ next_place (patched_of p) }
-{
-    match p {
-        Patched::Next(next) => Answer::accept(next as u64, 0),
-        Patched::Refused(code) => Answer::refuse(code),
-    }
-}
-
-// A number that was read, and the next place.
-fn byte_read(r: ByteRead) -> Answer
-    ensures { result ≡ number (got_byte r) }
-{
-    match r {
-        ByteRead::Got(value, next) => Answer::accept(value as u64, next.pos as u64),
-        ByteRead::Stop(refused) => Answer::refuse(refused.no),
-    }
-}
-
-// A number that was read, and the next place.
-fn u16_read(r: U16Read) -> Answer
-    ensures { result ≡ number (got_u16 r) }
-{
-    match r {
-        U16Read::Got(value, next) => Answer::accept(value as u64, next.pos as u64),
-        U16Read::Stop(refused) => Answer::refuse(refused.no),
-    }
-}
-
-// A number that was read, and the next place.
-fn u32_read(r: U32Read) -> Answer
-    ensures { result ≡ number (got_u32 r) }
-{
-    match r {
-        U32Read::Got(value, next) => Answer::accept(value as u64, next.pos as u64),
-        U32Read::Stop(refused) => Answer::refuse(refused.no),
-    }
-}
-
-// A number that was read, and the next place.
-fn num_read(r: NumRead) -> Answer
-    ensures { result ≡ number (got_num r) }
-{
-    match r {
-        NumRead::Got(value, next) => Answer::accept(value, next.pos as u64),
-        NumRead::Stop(refused) => Answer::refuse(refused.no),
-    }
-}
-
-// A signed number that was read, as its bit pattern, and the next place.
-fn i64_read(r: I64Read) -> Answer
-    ensures { result ≡ signed_number 64 (got_i64 r) }
-{
-    match r {
-        I64Read::Got(value, next) => Answer::accept(encoding::bits_of_i64(value), next.pos as u64),
-        I64Read::Stop(refused) => Answer::refuse(refused.no),
-    }
-}
-
-// A signed number that was read, as its bit pattern, and the next place.
-fn i32_read(r: I32Read) -> Answer
-    ensures { result ≡ signed_number 32 (got_i32 r) }
-{
-    match r {
-        I32Read::Got(value, next) => Answer::accept(
-            encoding::bits_of_i32(value) as u64,
-            next.pos as u64,
-        ),
-        I32Read::Stop(refused) => Answer::refuse(refused.no),
-    }
-}
-
-// A run: where it starts, and the next place.
-fn bytes_read(r: BytesRead) -> Answer
-    ensures { result ≡ run_of r }
-{
-    match r {
-        BytesRead::Got(start, next) => Answer::accept(start as u64, next.pos as u64),
-        BytesRead::Stop(refused) => Answer::refuse(refused.no),
-    }
-}
-
-// A counted array: how many numbers, and the next place.
-fn items_read(r: ItemsRead) -> Answer
-    ensures { result ≡ items_of r }
-{
-    match r {
-        ItemsRead::Got(array, next) => Answer::accept(array.count as u64, next.pos as u64),
-        ItemsRead::Stop(refused) => Answer::refuse(refused.no),
-    }
-}
-
-// Padding from a place on: how many bytes, and the next place.
-fn padding_read(at: u64, r: PaddingRead) -> Answer
-    ensures { result ≡ skipped at (got_padding r) }
-{
-    match r {
-        PaddingRead::Got(next) => Answer::accept(passed(at, next.pos as u64), next.pos as u64),
-        PaddingRead::Stop(refused) => Answer::refuse(refused.no),
-    }
-}
-
-// How far `next` is behind `at`.
-fn passed(at: u64, next: u64) -> u64
-    ensures { result ≡ next - at }
-{
-    if at < next {
-        return next - at;
-    }
-    0
+    Reader { pos: at as usize }
 }
 
 // The answer of a reader, unless its place is past the data: a read there is refused, even one of no bytes. The readers
@@ -242,7 +62,7 @@ fn unless_past(data: &[u8], at: u64, answer: Answer) -> Answer
     ensures { result ≡ choose (dec_le at (length «data».now)) answer (refused_as refusals.short) }
 {
     if (data.len() as u64) < at {
-        return Answer::refuse(Refusal::SHORT);
+        return Answer::refuse(Refusal::Short);
     }
     answer
 }
@@ -268,11 +88,7 @@ pub extern "C" fn tikomuci_abi_1() -> u64
 pub extern "C" fn tikomuci_write_byte(out: &mut [u8], at: u64, value: u8) -> Answer
     ensures { Writes at (value ∷ []) out.old out.new result }
 {
-    let writer = EncodingWriter {
-        at: at as usize,
-        required_alignment: 1,
-    };
-    written(writer.write_byte(out, value))
+    writer(at).write_byte(out, value).show()
 }
 
 // A run of bytes.
@@ -280,11 +96,7 @@ pub extern "C" fn tikomuci_write_byte(out: &mut [u8], at: u64, value: u8) -> Ans
 pub extern "C" fn tikomuci_write_bytes(out: &mut [u8], at: u64, data: &[u8]) -> Answer
     ensures { Writes at «data».now out.old out.new result }
 {
-    let writer = EncodingWriter {
-        at: at as usize,
-        required_alignment: 1,
-    };
-    written(writer.write_bytes(out, data))
+    writer(at).write_bytes(out, data).show()
 }
 
 // A varint, in its shortest spelling.
@@ -292,11 +104,7 @@ pub extern "C" fn tikomuci_write_bytes(out: &mut [u8], at: u64, data: &[u8]) -> 
 pub extern "C" fn tikomuci_write_varint(out: &mut [u8], at: u64, value: u64) -> Answer
     ensures { Writes at (spelling value) out.old out.new result }
 {
-    let writer = EncodingWriter {
-        at: at as usize,
-        required_alignment: 1,
-    };
-    written(writer.write_varint(out, value))
+    writer(at).write_varint(out, value).show()
 }
 
 // A signed varint, by zigzag.
@@ -304,11 +112,7 @@ pub extern "C" fn tikomuci_write_varint(out: &mut [u8], at: u64, value: u64) -> 
 pub extern "C" fn tikomuci_write_signed_varint(out: &mut [u8], at: u64, value: i64) -> Answer
     ensures { Writes at (spelling (zigzag value)) out.old out.new result }
 {
-    let writer = EncodingWriter {
-        at: at as usize,
-        required_alignment: 1,
-    };
-    written(writer.write_signed_varint(out, value))
+    writer(at).write_signed_varint(out, value).show()
 }
 
 // A number of 8 bits.
@@ -316,11 +120,7 @@ pub extern "C" fn tikomuci_write_signed_varint(out: &mut [u8], at: u64, value: i
 pub extern "C" fn tikomuci_write_le_u8(out: &mut [u8], at: u64, value: u8) -> Answer
     ensures { Writes at (bytes_of 1 value) out.old out.new result }
 {
-    let writer = EncodingWriter {
-        at: at as usize,
-        required_alignment: 1,
-    };
-    written(writer.write_le_u8(out, value))
+    writer(at).write_le_u8(out, value).show()
 }
 
 // A number of 16 bits.
@@ -328,11 +128,7 @@ pub extern "C" fn tikomuci_write_le_u8(out: &mut [u8], at: u64, value: u8) -> An
 pub extern "C" fn tikomuci_write_le_u16(out: &mut [u8], at: u64, value: u16) -> Answer
     ensures { Writes at (bytes_of 2 value) out.old out.new result }
 {
-    let writer = EncodingWriter {
-        at: at as usize,
-        required_alignment: 1,
-    };
-    written(writer.write_le_u16(out, value))
+    writer(at).write_le_u16(out, value).show()
 }
 
 // A number of 32 bits.
@@ -340,11 +136,7 @@ pub extern "C" fn tikomuci_write_le_u16(out: &mut [u8], at: u64, value: u16) -> 
 pub extern "C" fn tikomuci_write_le_u32(out: &mut [u8], at: u64, value: u32) -> Answer
     ensures { Writes at (bytes_of 4 value) out.old out.new result }
 {
-    let writer = EncodingWriter {
-        at: at as usize,
-        required_alignment: 1,
-    };
-    written(writer.write_le_u32(out, value))
+    writer(at).write_le_u32(out, value).show()
 }
 
 // A number of 64 bits.
@@ -352,11 +144,7 @@ pub extern "C" fn tikomuci_write_le_u32(out: &mut [u8], at: u64, value: u32) -> 
 pub extern "C" fn tikomuci_write_le_u64(out: &mut [u8], at: u64, value: u64) -> Answer
     ensures { Writes at (bytes_of 8 value) out.old out.new result }
 {
-    let writer = EncodingWriter {
-        at: at as usize,
-        required_alignment: 1,
-    };
-    written(writer.write_le_u64(out, value))
+    writer(at).write_le_u64(out, value).show()
 }
 
 // A signed number of 32 bits.
@@ -364,11 +152,7 @@ pub extern "C" fn tikomuci_write_le_u64(out: &mut [u8], at: u64, value: u64) -> 
 pub extern "C" fn tikomuci_write_le_i32(out: &mut [u8], at: u64, value: i32) -> Answer
     ensures { Writes at (bytes_of 4 (pattern 32 value)) out.old out.new result }
 {
-    let writer = EncodingWriter {
-        at: at as usize,
-        required_alignment: 1,
-    };
-    written(writer.write_le_i32(out, value))
+    writer(at).write_le_i32(out, value).show()
 }
 
 // A signed number of 64 bits.
@@ -376,11 +160,7 @@ pub extern "C" fn tikomuci_write_le_i32(out: &mut [u8], at: u64, value: i32) -> 
 pub extern "C" fn tikomuci_write_le_i64(out: &mut [u8], at: u64, value: i64) -> Answer
     ensures { Writes at (bytes_of 8 (pattern 64 value)) out.old out.new result }
 {
-    let writer = EncodingWriter {
-        at: at as usize,
-        required_alignment: 1,
-    };
-    written(writer.write_le_i64(out, value))
+    writer(at).write_le_i64(out, value).show()
 }
 
 // A float of 32 bits, by its bits.
@@ -388,11 +168,7 @@ pub extern "C" fn tikomuci_write_le_i64(out: &mut [u8], at: u64, value: i64) -> 
 pub extern "C" fn tikomuci_write_le_f32(out: &mut [u8], at: u64, bits: u32) -> Answer
     ensures { Writes at (bytes_of 4 bits) out.old out.new result }
 {
-    let writer = EncodingWriter {
-        at: at as usize,
-        required_alignment: 1,
-    };
-    written(writer.write_le_f32(out, bits))
+    writer(at).write_le_f32(out, bits).show()
 }
 
 // A float of 64 bits, by its bits.
@@ -400,11 +176,7 @@ pub extern "C" fn tikomuci_write_le_f32(out: &mut [u8], at: u64, bits: u32) -> A
 pub extern "C" fn tikomuci_write_le_f64(out: &mut [u8], at: u64, bits: u64) -> Answer
     ensures { Writes at (bytes_of 8 bits) out.old out.new result }
 {
-    let writer = EncodingWriter {
-        at: at as usize,
-        required_alignment: 1,
-    };
-    written(writer.write_le_f64(out, bits))
+    writer(at).write_le_f64(out, bits).show()
 }
 
 // A count, and as many signed numbers of 64 bits.
@@ -412,11 +184,7 @@ pub extern "C" fn tikomuci_write_le_f64(out: &mut [u8], at: u64, bits: u64) -> A
 pub extern "C" fn tikomuci_write_le_var_size_i64(out: &mut [u8], at: u64, values: &[i64]) -> Answer
     ensures { Writes at (counted_bytes 8 (map (pattern 64) values.now)) out.old out.new result }
 {
-    let writer = EncodingWriter {
-        at: at as usize,
-        required_alignment: 1,
-    };
-    written(writer.write_le_var_size_i64(out, values))
+    writer(at).write_le_var_size_i64(out, values).show()
 }
 
 // A count, and as many signed numbers of 32 bits.
@@ -424,11 +192,7 @@ pub extern "C" fn tikomuci_write_le_var_size_i64(out: &mut [u8], at: u64, values
 pub extern "C" fn tikomuci_write_le_var_size_i32(out: &mut [u8], at: u64, values: &[i32]) -> Answer
     ensures { Writes at (counted_bytes 4 (map (pattern 32) values.now)) out.old out.new result }
 {
-    let writer = EncodingWriter {
-        at: at as usize,
-        required_alignment: 1,
-    };
-    written(writer.write_le_var_size_i32(out, values))
+    writer(at).write_le_var_size_i32(out, values).show()
 }
 
 // The 64 bits of a float attribute, as a signed varint.
@@ -436,11 +200,9 @@ pub extern "C" fn tikomuci_write_le_var_size_i32(out: &mut [u8], at: u64, values
 pub extern "C" fn tikomuci_write_ap_float_f64(out: &mut [u8], at: u64, f64_bits: u64) -> Answer
     ensures { WritesFloat at f64_bits F64 out.old out.new result }
 {
-    let writer = EncodingWriter {
-        at: at as usize,
-        required_alignment: 1,
-    };
-    written(writer.write_ap_float(out, f64_bits, FloatType::F64))
+    writer(at)
+        .write_ap_float(out, f64_bits, FloatType::F64)
+        .show()
 }
 
 // A float attribute as an 8-bit float, one byte.
@@ -448,11 +210,9 @@ pub extern "C" fn tikomuci_write_ap_float_f64(out: &mut [u8], at: u64, f64_bits:
 pub extern "C" fn tikomuci_write_ap_float_f8e4m3fn(out: &mut [u8], at: u64, f64_bits: u64) -> Answer
     ensures { WritesFloat at f64_bits F8E4M3FN out.old out.new result }
 {
-    let writer = EncodingWriter {
-        at: at as usize,
-        required_alignment: 1,
-    };
-    written(writer.write_ap_float(out, f64_bits, FloatType::F8E4M3FN))
+    writer(at)
+        .write_ap_float(out, f64_bits, FloatType::F8E4M3FN)
+        .show()
 }
 
 // A float attribute as an 8-bit float, one byte.
@@ -460,11 +220,9 @@ pub extern "C" fn tikomuci_write_ap_float_f8e4m3fn(out: &mut [u8], at: u64, f64_
 pub extern "C" fn tikomuci_write_ap_float_f8e5m2(out: &mut [u8], at: u64, f64_bits: u64) -> Answer
     ensures { WritesFloat at f64_bits F8E5M2 out.old out.new result }
 {
-    let writer = EncodingWriter {
-        at: at as usize,
-        required_alignment: 1,
-    };
-    written(writer.write_ap_float(out, f64_bits, FloatType::F8E5M2))
+    writer(at)
+        .write_ap_float(out, f64_bits, FloatType::F8E5M2)
+        .show()
 }
 
 // An f64, by its bits, as the nearest E4M3FN code.
@@ -488,7 +246,7 @@ pub extern "C" fn tikomuci_f8e5m2(f64_bits: u64) -> u8
 pub extern "C" fn tikomuci_patch_u32(buf: &mut [u8], offset: u64, value: u32) -> Answer
     ensures { Patches offset (bytes_of 4 value) buf.old buf.new result }
 {
-    patched(encoding::patch_u32(buf, offset as usize, value))
+    encoding::patch_u32(buf, offset as usize, value).show()
 }
 
 // Replaces 8 bytes of a buffer by a number of 64 bits.
@@ -496,7 +254,7 @@ pub extern "C" fn tikomuci_patch_u32(buf: &mut [u8], offset: u64, value: u32) ->
 pub extern "C" fn tikomuci_patch_u64(buf: &mut [u8], offset: u64, value: u64) -> Answer
     ensures { Patches offset (bytes_of 8 value) buf.old buf.new result }
 {
-    patched(encoding::patch_u64(buf, offset as usize, value))
+    encoding::patch_u64(buf, offset as usize, value).show()
 }
 
 // Padding to a multiple of `alignment`: `second` is the alignment that is required now.
@@ -514,7 +272,10 @@ pub extern "C" fn tikomuci_align_to(
         at: at as usize,
         required_alignment,
     };
-    aligned(writer.align_to(out, alignment))
+    match writer.align_to(out, alignment) {
+        Ok(next) => Answer::accept(next.at as u64, next.required_alignment),
+        Err(refusal) => refusal.show(),
+    }
 }
 
 // A byte.
@@ -522,8 +283,7 @@ pub extern "C" fn tikomuci_align_to(
 pub extern "C" fn tikomuci_read_byte(data: &[u8], at: u64) -> Answer
     ensures { result ≡ number (byte «data».now at) }
 {
-    let reader = Reader { pos: at as usize };
-    byte_read(reader.read_byte(data))
+    reader(at).read_byte(data).show()
 }
 
 // A run of n bytes: `first` is where it starts. Past the data even an empty one is refused.
@@ -531,8 +291,7 @@ pub extern "C" fn tikomuci_read_byte(data: &[u8], at: u64) -> Answer
 pub extern "C" fn tikomuci_read_bytes(data: &[u8], at: u64, n: u64) -> Answer
     ensures { result ≡ run (reached (placed (raw n)) «data».now at) }
 {
-    let reader = Reader { pos: at as usize };
-    unless_past(data, at, bytes_read(reader.read_bytes(data, n as usize)))
+    unless_past(data, at, reader(at).read_bytes(data, n as usize).show())
 }
 
 // A varint, in any of its spellings.
@@ -540,8 +299,7 @@ pub extern "C" fn tikomuci_read_bytes(data: &[u8], at: u64, n: u64) -> Answer
 pub extern "C" fn tikomuci_read_varint(data: &[u8], at: u64) -> Answer
     ensures { result ≡ number (varint_at «data».now at) }
 {
-    let reader = Reader { pos: at as usize };
-    num_read(reader.read_varint(data))
+    reader(at).read_varint(data).show()
 }
 
 // A signed varint: `first` is its bit pattern.
@@ -549,8 +307,7 @@ pub extern "C" fn tikomuci_read_varint(data: &[u8], at: u64) -> Answer
 pub extern "C" fn tikomuci_read_signed_varint(data: &[u8], at: u64) -> Answer
     ensures { result ≡ signed_number 64 (signed_varint_at «data».now at) }
 {
-    let reader = Reader { pos: at as usize };
-    i64_read(reader.read_signed_varint(data))
+    reader(at).read_signed_varint(data).show()
 }
 
 // A number of 8 bits.
@@ -558,8 +315,7 @@ pub extern "C" fn tikomuci_read_signed_varint(data: &[u8], at: u64) -> Answer
 pub extern "C" fn tikomuci_read_le_u8(data: &[u8], at: u64) -> Answer
     ensures { result ≡ number (fixed 1 «data».now at) }
 {
-    let reader = Reader { pos: at as usize };
-    byte_read(reader.read_le_u8(data))
+    reader(at).read_le_u8(data).show()
 }
 
 // A number of 16 bits.
@@ -567,8 +323,7 @@ pub extern "C" fn tikomuci_read_le_u8(data: &[u8], at: u64) -> Answer
 pub extern "C" fn tikomuci_read_le_u16(data: &[u8], at: u64) -> Answer
     ensures { result ≡ number (fixed 2 «data».now at) }
 {
-    let reader = Reader { pos: at as usize };
-    u16_read(reader.read_le_u16(data))
+    reader(at).read_le_u16(data).show()
 }
 
 // A number of 32 bits.
@@ -576,8 +331,7 @@ pub extern "C" fn tikomuci_read_le_u16(data: &[u8], at: u64) -> Answer
 pub extern "C" fn tikomuci_read_le_u32(data: &[u8], at: u64) -> Answer
     ensures { result ≡ number (fixed 4 «data».now at) }
 {
-    let reader = Reader { pos: at as usize };
-    u32_read(reader.read_le_u32(data))
+    reader(at).read_le_u32(data).show()
 }
 
 // A number of 64 bits.
@@ -585,8 +339,7 @@ pub extern "C" fn tikomuci_read_le_u32(data: &[u8], at: u64) -> Answer
 pub extern "C" fn tikomuci_read_le_u64(data: &[u8], at: u64) -> Answer
     ensures { result ≡ number (fixed 8 «data».now at) }
 {
-    let reader = Reader { pos: at as usize };
-    num_read(reader.read_le_u64(data))
+    reader(at).read_le_u64(data).show()
 }
 
 // A signed number of 64 bits: `first` is its bit pattern.
@@ -594,8 +347,7 @@ pub extern "C" fn tikomuci_read_le_u64(data: &[u8], at: u64) -> Answer
 pub extern "C" fn tikomuci_read_le_i64(data: &[u8], at: u64) -> Answer
     ensures { result ≡ signed_number 64 (signed_at 8 «data».now at) }
 {
-    let reader = Reader { pos: at as usize };
-    i64_read(reader.read_le_i64(data))
+    reader(at).read_le_i64(data).show()
 }
 
 // A signed number of 32 bits: `first` is its bit pattern.
@@ -603,8 +355,7 @@ pub extern "C" fn tikomuci_read_le_i64(data: &[u8], at: u64) -> Answer
 pub extern "C" fn tikomuci_read_le_i32(data: &[u8], at: u64) -> Answer
     ensures { result ≡ signed_number 32 (signed_at 4 «data».now at) }
 {
-    let reader = Reader { pos: at as usize };
-    i32_read(reader.read_le_i32(data))
+    reader(at).read_le_i32(data).show()
 }
 
 // A counted array: `first` is the count, and its numbers of 8 bytes stand before `second`.
@@ -612,8 +363,7 @@ pub extern "C" fn tikomuci_read_le_i32(data: &[u8], at: u64) -> Answer
 pub extern "C" fn tikomuci_read_le_var_size_i64(data: &[u8], at: u64) -> Answer
     ensures { result ≡ items (items_at 8 «data».now at) }
 {
-    let reader = Reader { pos: at as usize };
-    items_read(reader.read_le_var_size_i64(data))
+    reader(at).read_le_var_size_i64(data).show()
 }
 
 // A counted array: `first` is the count, and its numbers of 4 bytes stand before `second`.
@@ -621,8 +371,7 @@ pub extern "C" fn tikomuci_read_le_var_size_i64(data: &[u8], at: u64) -> Answer
 pub extern "C" fn tikomuci_read_le_var_size_i32(data: &[u8], at: u64) -> Answer
     ensures { result ≡ items (items_at 4 «data».now at) }
 {
-    let reader = Reader { pos: at as usize };
-    items_read(reader.read_le_var_size_i32(data))
+    reader(at).read_le_var_size_i32(data).show()
 }
 
 // Passes over padding to a multiple of `alignment`: `first` is how many bytes it has. Past the data none is refused too.
@@ -630,8 +379,10 @@ pub extern "C" fn tikomuci_read_le_var_size_i32(data: &[u8], at: u64) -> Answer
 pub extern "C" fn tikomuci_skip_padding(data: &[u8], at: u64, alignment: u64) -> Answer
     ensures { result ≡ skipped at (reached (padding_at alignment) «data».now at) }
 {
-    let reader = Reader { pos: at as usize };
-    let padding = padding_read(at, reader.skip_padding(data, alignment));
+    let padding = match reader(at).skip_padding(data, alignment) {
+        Ok(next) => Answer::accept((next.pos as u64).saturating_sub(at), next.pos as u64),
+        Err(refused) => refused.show(),
+    };
     unless_past(data, at, padding)
 }
 
@@ -640,18 +391,7 @@ pub extern "C" fn tikomuci_skip_padding(data: &[u8], at: u64, alignment: u64) ->
 pub extern "C" fn tikomuci_remaining(data: &[u8], at: u64) -> u64
     ensures { result ≡ remaining_at «data».now at }
 {
-    let reader = Reader { pos: at as usize };
-    reader.remaining(data) as u64
-}
-
-// A view's answer: offset and length.
-fn viewed(v: ViewRead) -> Answer
-    ensures { result ≡ view (view_of v) }
-{
-    match v {
-        ViewRead::Got(place) => Answer::accept(place.start as u64, place.len as u64),
-        ViewRead::Stop(stopped) => Answer::stop(stopped),
-    }
+    reader(at).remaining(data) as u64
 }
 
 // The payload that counts for a section id: `first` is its offset in the file, `second` its length.
@@ -659,17 +399,7 @@ fn viewed(v: ViewRead) -> Answer
 pub extern "C" fn tikomuci_section(file: &[u8], id: u64) -> Answer
     ensures { SectionViewed file.now id result }
 {
-    viewed(container::section(file, id))
-}
-
-// What a file needs: words of the sheet, and bytes of the pool.
-fn needs(read: FileRead) -> Answer
-    ensures { result ≡ needed (file_read read) }
-{
-    match read {
-        FileRead::Got(need) => Answer::accept(need.words as u64, need.bytes as u64),
-        FileRead::Stop(stopped) => Answer::stop(stopped),
-    }
+    container::section(file, id).show()
 }
 
 // How large the stores for a file have to be: `first` counts the words of the sheet, `second` the bytes of the pool.
@@ -677,7 +407,7 @@ fn needs(read: FileRead) -> Answer
 pub extern "C" fn tikomuci_measure(file: &[u8]) -> Answer
     ensures { Measured file.now result }
 {
-    needs(decoder::measure(file))
+    decoder::measure(file).show()
 }
 
 // The tables of a file: the sheet's words, little-endian, and the pool. The answer is that of tikomuci_measure.
@@ -685,7 +415,7 @@ pub extern "C" fn tikomuci_measure(file: &[u8]) -> Answer
 pub extern "C" fn tikomuci_read(file: &[u8], sheet: &mut [u8], pool: &mut [u8]) -> Answer
     ensures { FileDone file.now sheet.old sheet.new pool.old pool.new result }
 {
-    needs(decoder::read(file, sheet, pool))
+    decoder::read(file, sheet, pool).show()
 }
 
 // The bytes of a string: `first` is their offset in the file, `second` how many they are.
@@ -693,7 +423,7 @@ pub extern "C" fn tikomuci_read(file: &[u8], sheet: &mut [u8], pool: &mut [u8]) 
 pub extern "C" fn tikomuci_string(file: &[u8], index: u64) -> Answer
     ensures { RowViewed strings_in string_id file.now index result }
 {
-    viewed(decoder::string(file, index))
+    decoder::string(file, index).show()
 }
 
 // The bytes of a constant.
@@ -701,7 +431,7 @@ pub extern "C" fn tikomuci_string(file: &[u8], index: u64) -> Answer
 pub extern "C" fn tikomuci_constant(file: &[u8], index: u64) -> Answer
     ensures { RowViewed constants_in constant_id file.now index result }
 {
-    viewed(decoder::constant(file, index))
+    decoder::constant(file, index).show()
 }
 
 // The bytes of a function's body.
@@ -709,17 +439,7 @@ pub extern "C" fn tikomuci_constant(file: &[u8], index: u64) -> Answer
 pub extern "C" fn tikomuci_body(file: &[u8], index: u64) -> Answer
     ensures { RowViewed bodies_in func_id file.now index result }
 {
-    viewed(decoder::body(file, index))
-}
-
-// How long an image is.
-fn sized(image: Imaged) -> Answer
-    ensures { result ≡ size (image_size image) }
-{
-    match image {
-        Imaged::Bytes(bytes) => Answer::accept(bytes as u64, 0),
-        Imaged::Refused(no) => Answer::refuse(no),
-    }
+    decoder::body(file, index).show()
 }
 
 // The length of the file that a sheet would be written as: `first` counts its bytes.
@@ -727,7 +447,7 @@ fn sized(image: Imaged) -> Answer
 pub extern "C" fn tikomuci_image(sheet: &[u8]) -> Answer
     ensures { SheetImaged sheet.now result }
 {
-    sized(writer::image(sheet))
+    writer::image(sheet).show()
 }
 
 // Writes the file of a sheet and its pool: `first` counts its bytes.
@@ -735,17 +455,7 @@ pub extern "C" fn tikomuci_image(sheet: &[u8]) -> Answer
 pub extern "C" fn tikomuci_write(sheet: &[u8], pool: &[u8], out: &mut [u8]) -> Answer
     ensures { SheetWritten sheet.now pool.now out.old out.new result }
 {
-    sized(writer::write(sheet, pool, out))
-}
-
-// How long a name is.
-fn lettered(name: Named) -> Answer
-    ensures { result ≡ size (name_read name) }
-{
-    match name {
-        Named::Bytes(bytes) => Answer::accept(bytes as u64, 0),
-        Named::Refused(no) => Answer::refuse(no),
-    }
+    writer::write(sheet, pool, out).show()
 }
 
 // The name of a type row of a sheet, as text: `first` counts its bytes.
@@ -753,17 +463,7 @@ fn lettered(name: Named) -> Answer
 pub extern "C" fn tikomuci_type_text(sheet: &[u8], row: u64, out: &mut [u8]) -> Answer
     ensures { TypeNamed sheet.now row out.old out.new result }
 {
-    lettered(names::type_text(sheet, row, out))
-}
-
-// The slot of a call of the cache.
-fn slotted(read: SlotRead) -> Answer
-    ensures { result ≡ slot (slot_read read) }
-{
-    match read {
-        SlotRead::Got(slot) => Answer::accept(slot as u64, 0),
-        SlotRead::Stop(stopped) => Answer::stop(stopped),
-    }
+    names::type_text(sheet, row, out).show()
 }
 
 // Puts a file in the cache for an instance: `first` is its slot.
@@ -777,7 +477,7 @@ pub extern "C" fn tikomuci_cache_put(
     ensures { CachePut cache_slots instance file.now (record { buffer = cache.old; owners = owners.old })
         (record { buffer = cache.new; owners = owners.new }) result }
 {
-    slotted(cache::put(cache, owners, CACHE_SLOTS, instance, file))
+    cache::put(cache, owners, CACHE_SLOTS, instance, file).show()
 }
 
 // The bytes of a constant of the file that an instance has: `first` is their offset in the buffer, `second` how many they
@@ -791,7 +491,7 @@ pub extern "C" fn tikomuci_cache_fetch(
 ) -> Answer
     ensures { CacheFetched cache_slots instance index (record { buffer = cache.now; owners = owners.now }) result }
 {
-    viewed(cache::fetch(cache, owners, CACHE_SLOTS, instance, index))
+    cache::fetch(cache, owners, CACHE_SLOTS, instance, index).show()
 }
 
 // Drops the file that an instance has: `first` is the slot that becomes free.
@@ -800,7 +500,7 @@ pub extern "C" fn tikomuci_cache_drop(cache: &mut [u8], owners: &mut [u8], insta
     ensures { CacheDropped cache_slots instance (record { buffer = cache.old; owners = owners.old })
         (record { buffer = cache.new; owners = owners.new }) result }
 {
-    slotted(cache::drop(cache, owners, CACHE_SLOTS, instance))
+    cache::drop(cache, owners, CACHE_SLOTS, instance).show()
 }
 
 // The same three for a session: put ..
@@ -814,7 +514,7 @@ pub extern "C" fn tikomuci_session_put(
     ensures { CachePut session_slots instance file.now (record { buffer = cache.old; owners = owners.old })
         (record { buffer = cache.new; owners = owners.new }) result }
 {
-    slotted(cache::put(cache, owners, SESSION_SLOTS, instance, file))
+    cache::put(cache, owners, SESSION_SLOTS, instance, file).show()
 }
 
 // .. fetch ..
@@ -827,7 +527,7 @@ pub extern "C" fn tikomuci_session_fetch(
 ) -> Answer
     ensures { CacheFetched session_slots instance index (record { buffer = cache.now; owners = owners.now }) result }
 {
-    viewed(cache::fetch(cache, owners, SESSION_SLOTS, instance, index))
+    cache::fetch(cache, owners, SESSION_SLOTS, instance, index).show()
 }
 
 // .. and drop.
@@ -840,5 +540,5 @@ pub extern "C" fn tikomuci_session_drop(
     ensures { CacheDropped session_slots instance (record { buffer = cache.old; owners = owners.old })
         (record { buffer = cache.new; owners = owners.new }) result }
 {
-    slotted(cache::drop(cache, owners, SESSION_SLOTS, instance))
+    cache::drop(cache, owners, SESSION_SLOTS, instance).show()
 }

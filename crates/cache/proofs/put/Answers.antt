@@ -2,7 +2,6 @@
 use mathlib.Core.Path.{refl, ap}
 use native.Mathlib.Omega.{arith}
 use Rattle.decoder.proofs.LawsRowViews.{measured}
-use Rattle.cache.specs.declared.SlotRead.TheVariants as slot
 use Rattle.cache.specs.Calls.{slot_read}
 use Rattle.cache.proofs.LawsCalls.{bad-answer, put_refused, measure-refused, put-stays, put_post}
 use Rattle.cache.proofs.put.Goals as goal
@@ -14,18 +13,18 @@ pub returns-in_default : goal.returns-in_default
 returns-in_default c =
     let b = rw c.in_default.is at (c.judged.ensures c.args.cache.now refl) in
     put_post _ _ _ _ _ _ (omega (arith, c.well_formed))
-    (put-stays _ _ _ _ _ _ _ _ (ap (λ x. slot_read (slot.Stop x)) c.stopped.ensures) (bad-answer _ _ _ b))
+    (put-stays _ _ _ _ _ _ _ _ (ap (λ x. slot_read (Err x)) c.call.ensures) (bad-answer _ _ _ b))
 
 pub put_accepted-requires : goal.put_accepted-requires
 put_accepted-requires c = (
-  rw c.in-At.is at (c.judged.ensures c.args.cache.now refl),
+  rw c.in-Some.is at (c.judged.ensures c.args.cache.now refl),
   measured _ _ (rw c.in-Got.is at c.measure.ensures.answer),
   c.slot_size-size.ensures,
 )
 
 pub returns-in-Stop : goal.returns-in-Stop
 returns-in-Stop c =
-    let g = rw c.in-At.is at (c.judged.ensures c.args.cache.now refl) in
+    let g = rw c.in-Some.is at (c.judged.ensures c.args.cache.now refl) in
     put_post _ _ _ _ _ _ (omega (arith, c.well_formed))
     (put-stays _ _ _ _ _ _ _ _ refl
     (put_refused _ _ _ _ g.0 _ _ _ (measure-refused _ _ _ c.in-Stop.is c.measure.ensures.answer)))

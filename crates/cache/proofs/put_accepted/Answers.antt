@@ -1,7 +1,6 @@
 -- `put_accepted` puts a file that is accepted, if it fits and there is a slot. Assumes nothing.
 use mathlib.Core.Path.{sym, ap, ◌∙◌}
 use native.Mathlib.Omega.{arith}
-use Rattle.cache.specs.declared.SlotRead.TheVariants as slot
 use Rattle.cache.specs.Calls.{slot_read}
 use Rattle.cache.proofs.LawsJudged.{below, slot-room, as-slot, as_none}
 use Rattle.cache.proofs.LawsCalls.{accepted-decode, put-large, put-there, or-accepted, or-refused, put-stays, stored-left}
@@ -10,14 +9,14 @@ use Rattle.cache.proofs.put_accepted.Goals as goal
 pub returns-then-size-file : goal.returns-then-size-file
 returns-then-size-file c =
     let (t, d) = accepted-decode _ c.requires.1 in
-    put-stays _ _ _ _ _ _ _ _ (ap (λ x. slot_read (slot.Stop x)) c.stopped.ensures)
+    put-stays _ _ _ _ _ _ _ _ (ap (λ x. slot_read (Err x)) c.call.ensures)
     (put-large _ _ _ _ c.requires.0.0 t d _ c.requires.2 c.if-size-file.true)
 
 pub returns-then-slot-slots : goal.returns-then-slot-slots
 returns-then-slot-slots c =
     let x = c.slot_for-slot.ensures _ c.requires.0.1 in
     let (t, d) = accepted-decode _ c.requires.1 in
-    put-stays _ _ _ _ _ _ _ _ (ap (λ x. slot_read (slot.Stop x)) c.stopped-then-slot-slots.ensures)
+    put-stays _ _ _ _ _ _ _ _ (ap (λ x. slot_read (Err x)) c.call-then-slot-slots.ensures)
     (put-there _ _ _ _ c.requires.0.0 t d _ c.requires.2 c.if-size-file.false _ (x.slot _) ∙
     or-refused _ _ (as_none _ _ (omega (arith, c.if-slot-slots.true))))
 
