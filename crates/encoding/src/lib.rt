@@ -36,7 +36,7 @@ pub type Written = Result<EncodingWriter, Refusal>;
 // What a patch answers: the place behind its bytes, or why they are not written.
 pub type Patched = Result<usize, Refusal>;
 
-// The bits of a signed number, in two's complement.
+// The bits of a signed number, in two's complement: by a name for each width, as the C boundary has it.
 pub fn bits_of_i64(value: i64) -> u64
     ensures { result ≡ pattern 64 value }
 {
@@ -160,7 +160,8 @@ fn padding_to(alignment: u64, at: usize) -> usize
     ((alignment - over) % alignment) as usize
 }
 
-// Stores a varint, and answers the place behind it. Most values are below 128 and take one byte: they take no loop.
+// Stores a varint, and answers the place behind it. Most values are below 128 and take one byte: they take no loop. The
+// loop ends where the value does, at a place that is answered: a `for` over places would have to be left by a `break`.
 fn put_varint(out: &mut [u8], at: usize, value: u64) -> usize
     requires { at + length (spelling value) ≤ length out.old }
     ensures place { result ≡ at + length (spelling value) }
