@@ -7,6 +7,9 @@ use native.Mathlib.Decide.{dec_le}
 use mathlib.Core.Option.{Option, none, some}
 use mathlib.Core.List.{List, [], ◌∷◌, ◌++◌}
 use lib.ListN.{length, replicate, length-replicate}
+use Rattle.std.specs.Prelude.{Result, Ok, Err}
+use Rattle.payloads.specs.declared.Need.{Need}
+use Rattle.enums.specs.Numbered.{number_of, stage_number}
 use Rattle.exact.proofs.LawsChoice.{choose_yes, choose_no}
 use Rattle.encoding.specs.Out.{put}
 use Rattle.encoding.proofs.LawsOut.{put-append}
@@ -20,7 +23,7 @@ use Rattle.sheet.specs.Store.{put_words}
 use Rattle.container.specs.declared.sections.Stopped.{Stopped}
 use Rattle.container.specs.declared.View.{View}
 use Rattle.container.proofs.LawsViews.{view-only}
-use Rattle.reading.proofs.LawsShown.{only}
+use Rattle.container.proofs.LawsShown.{read-only}
 use Rattle.payloads.specs.Whole.{file_read, need_of}
 use Rattle.decoder.specs.Views.{Accepted}
 use Rattle.slots.specs.Cache.{Slot, slot_of, slot_for, or_refused, put_in, drop_in}
@@ -156,18 +159,10 @@ filled-up b x y bs at z h l p q =
     let m : length zeros ≡ z - length bs = length-replicate (z - length bs) 0 in
     q ∙ rw p (sym (put-append bs zeros b at (omega arith)))
 
-abbrev back_slot : Read ℕ → Result ℕ Stopped
-back_slot (accepted k) = Ok k
-back_slot (refused c m a) = Err (record { no = c; stage = m; at = a })
-
-same_slot : (r : Result ℕ Stopped) → back_slot (slot_read r) ≡ r
-same_slot (Ok k) = refl
-same_slot (Err x) = refl
-
 -- Two calls that write, of one answer and one effect: what they answer and leave is the same ..
 writes-only : {answer : Lent → Read ℕ} {leaves : Lent → Lent} {s s' s'' : Lent} {r q : Result ℕ Stopped} →
     Writes answer leaves s s' r → Writes answer leaves s s'' q → (r ≡ q) × (s' ≡ s'')
-writes-only x y = (only slot_read back_slot same_slot x.answered y.answered, x.left ∙ sym y.left)
+writes-only x y = (read-only x.answered y.answered, x.left ∙ sym y.left)
 
 -- .. so that the contracts of the calls allow one result each.
 pub put_only : {n i : ℕ} {file : List ℕ} {s s' s'' : Lent} {r q : Result ℕ Stopped} → PutPost n i file s s' r → PutPost n i file s s'' q →

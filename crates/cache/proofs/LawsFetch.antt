@@ -7,6 +7,8 @@ use mathlib.Core.Option.{Option, none, some}
 use mathlib.Core.List.{List}
 use lib.ListN.{length, take, drop, get_or, length-drop}
 use lib.Seq.{length-take-le}
+use Rattle.std.specs.Prelude.{Result}
+use Rattle.container.specs.declared.sections.Stopped.{Stopped}
 use Rattle.enums.specs.Container.{constant_id}
 use Rattle.enums.specs.Refusals as refusals
 use Rattle.format.specs.Read.{Read, accepted, refused, map_read}
@@ -157,11 +159,11 @@ view-begins b start size k p v h =
     omega (arith, m, (stands-bytes _ p.offset _ v.row.stands).1)
 
 -- The slot that was found is the one that a drop answers, ..
-pub own-found : (n i : ℕ) (b ws : List ℕ) (k : ℕ) (r : Result ℕ Stopped) → OwnSlot (length b) ws n i r → r ≡ Got k →
+pub own-found : (n i : ℕ) (b ws : List ℕ) (k : ℕ) (r : Result ℕ Stopped) → OwnSlot (length b) ws n i r → r ≡ Ok k →
     drop_answer n i (record { buffer = b; owners = ws }) ≡ accepted k
 own-found n i b ws k r o e = sym (rw e at (o b refl))
 
 -- .. and so the instance's.
 pub own-held : (n i : ℕ) (b ws : List ℕ) (z k : ℕ) (r : Result ℕ Stopped) → z ≡ slot_size n b → OwnSlot (length b) ws n i r →
-    r ≡ Got k → Holds n i z (record { buffer = b; owners = ws }) k
+    r ≡ Ok k → Holds n i z (record { buffer = b; owners = ws }) k
 own-held n i b ws z k r e o g = holds n i (record { buffer = b; owners = ws }) z k e (own-found n i b ws k r o g)

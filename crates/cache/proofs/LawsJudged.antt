@@ -7,6 +7,7 @@ use native.Mathlib.Decide.{dec_lt}
 use mathlib.Core.Option.{none, some}
 use mathlib.Core.List.{List}
 use lib.ListN.{length, get_or}
+use Rattle.std.specs.Prelude as std
 use Rattle.exact.specs.Choice.{choose}
 use Rattle.exact.proofs.LawsChoice.{choose_yes, choose_no}
 use Rattle.slots.specs.Cache.{Slot, free, Free, is_free, is_held_by, lowest, slot_of, or_else}

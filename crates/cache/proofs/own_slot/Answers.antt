@@ -1,6 +1,7 @@
 -- `own_slot` judges the cache and finds the slot that an instance holds. Assumes nothing.
 use mathlib.Core.Path.{sym, ap, ◌∙◌}
 use native.Mathlib.Omega.{arith}
+use Rattle.std.specs.Prelude.{Err}
 use Rattle.cache.specs.Calls.{slot_read}
 use Rattle.cache.proofs.LawsJudged.{below, as-slot, as_none, slot_of_row}
 use Rattle.cache.proofs.LawsCalls.{bad-answer, drop-there, or-accepted, or-refused}

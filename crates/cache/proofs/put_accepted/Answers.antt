@@ -1,6 +1,7 @@
 -- `put_accepted` puts a file that is accepted, if it fits and there is a slot. Assumes nothing.
 use mathlib.Core.Path.{sym, ap, ◌∙◌}
 use native.Mathlib.Omega.{arith}
+use Rattle.std.specs.Prelude.{Err}
 use Rattle.cache.specs.Calls.{slot_read}
 use Rattle.cache.proofs.LawsJudged.{below, slot-room, as-slot, as_none}
 use Rattle.cache.proofs.LawsCalls.{accepted-decode, put-large, put-there, or-accepted, or-refused, put-stays, stored-left}
