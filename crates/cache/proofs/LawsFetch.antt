@@ -7,7 +7,7 @@ use mathlib.Core.Option.{Option, none, some}
 use mathlib.Core.List.{List}
 use lib.ListN.{length, take, drop, get_or, length-drop}
 use lib.Seq.{length-take-le}
-use Rattle.std.specs.Prelude.{Result}
+use Rattle.std.specs.Prelude.{Result, Ok}
 use Rattle.container.specs.declared.sections.Stopped.{Stopped}
 use Rattle.enums.specs.Container.{constant_id}
 use Rattle.enums.specs.Refusals as refusals

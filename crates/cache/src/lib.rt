@@ -65,7 +65,7 @@ fn fill_slot(cache: &mut [u8], start: usize, size: usize, bytes: &[u8])
     requires { (start + size ≤ length cache.old) × (length bytes.now ≤ size) }
     ensures { cache.new ≡ put cache.old start (bytes.now ++ replicate (size - length bytes.now) 0) }
 {
-    sheet::put_long_run(cache, start, bytes);
+    sheet::put_run(cache, start, bytes);
     encoding::clear(cache, start + bytes.len(), size - bytes.len());
 }
 

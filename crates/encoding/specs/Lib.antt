@@ -3,3 +3,4 @@ pub mod Signed
 pub mod Out
 pub mod Shown
 pub mod Floats
+pub mod Widths

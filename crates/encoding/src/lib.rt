@@ -2,7 +2,6 @@
 // the bytes have room is judged before the first of them is written, so a refused call changes nothing.
 #![tactic(auto)]
 
-ghost use Rattle.std.proofs.Common.{rules};
 ghost use Rattle.std.specs.Prelude.{◌≡◌, [], ◌∷◌, map, ◌+◌, ◌*◌, ◌≤◌, ◌<◌, length, replicate, SomeIff, ℕ};
 ghost use Rattle.exact.specs.Fixed.{bytes_of};
 ghost use Rattle.exact.specs.Padding.{gap};
@@ -12,6 +11,7 @@ ghost use Rattle.encoding.specs.Signed.{pattern, signed, zigzag};
 ghost use Rattle.encoding.specs.Out.{put, Tells, flat, counted_bytes};
 ghost use Rattle.encoding.specs.Shown.{new_writer, Writes, Patches, asked};
 ghost use Rattle.encoding.specs.Floats.{WritesFloat};
+ghost use Rattle.encoding.specs.Widths.{narrow_4, narrow_8};
 
 use enums::Refusal;
 
@@ -83,7 +83,7 @@ impl Item for i64 {
 
     ghost bits = { pattern 64 };
 
-    ghost narrow = { Prim.search rules };
+    ghost narrow = { narrow_8 };
 
     fn bits(self) -> u64 {
         bits_of_i64(self)
@@ -97,7 +97,7 @@ impl Item for i32 {
 
     ghost bits = { pattern 32 };
 
-    ghost narrow = { Prim.search rules };
+    ghost narrow = { narrow_4 };
 
     fn bits(self) -> u64 {
         bits_of_i32(self) as u64

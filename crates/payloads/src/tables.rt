@@ -66,7 +66,7 @@ fn fill_at_once(
     }
     let (rows, filled) = fill_entries(payload, starts, width, sheet, &mut pool[0..0], at)?;
     let front = first_entry(run, width, data.len()).start.0;
-    sheet::put_long_run(pool, at.bytes, &data[front..]);
+    sheet::put_run(pool, at.bytes, &data[front..]);
     Ok((rows, filled))
 }
 

@@ -1,4 +1,3 @@
 pub mod LawsStore
 pub mod LawsWords
-pub mod LawsBlocks
 pub mod LawsLies

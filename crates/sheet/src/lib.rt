@@ -34,7 +34,8 @@ pub fn word_at(store: &[u8], i: usize) -> u64
     }
 }
 
-// Stores a run of bytes at a place of the pool where it has room, and else nothing.
+// Stores a run of bytes at a place of the pool where it has room, and else nothing. Where the two do not overlap it is
+// one memmove.
 pub fn put_run(pool: &mut [u8], at: usize, run: &[u8])
     ensures { pool.new ≡ put pool.old at run.now }
 {
@@ -43,35 +44,4 @@ pub fn put_run(pool: &mut [u8], at: usize, run: &[u8])
         required_alignment: 1,
     };
     let _ = writer.write_bytes(pool, run);
-}
-
-// How many bytes of a long run are stored at once.
-const BLOCK: usize = 65536;
-
-// Stores a run that has room, by way of a block of our own. The compiler sees that the block overlaps neither side, which it
-// cannot see of two lent slices: it makes one memmove of the two copies, and leaves the block out.
-fn put_blocks(pool: &mut [u8], at: usize, run: &[u8])
-    requires { at + length run.now ≤ length pool.old }
-    ensures { pool.new ≡ put pool.old at run.now }
-{
-    let mut done = 0;
-    while BLOCK <= run.len() - done {
-        let end = done + BLOCK;
-        let mut block = [0u8; BLOCK];
-        put_run(&mut block, 0, &run[done..end]);
-        put_run(pool, at + done, &block);
-        done = end;
-    }
-    put_run(pool, at + done, &run[done..]);
-}
-
-// Stores a run as `put_run` does; it is for runs that may be long.
-pub fn put_long_run(pool: &mut [u8], at: usize, run: &[u8])
-    ensures { pool.new ≡ put pool.old at run.now }
-{
-    if at <= pool.len() {
-        if run.len() <= pool.len() - at {
-            put_blocks(pool, at, run);
-        }
-    }
 }
