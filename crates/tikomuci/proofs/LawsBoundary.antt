@@ -24,7 +24,15 @@ use Rattle.reading.specs.declared.Refused.{Refused}
 use Rattle.reading.specs.declared.Items.{Items}
 use Rattle.reading.specs.Shown.{got_bytes, got_items}
 use Rattle.tikomuci.specs.declared.answers.Answer.{Answer}
-use Rattle.tikomuci.specs.Boundary.{refused_as, refusal_of, pair_by, shown_by, Puts, Writes, WritesFloat, next_place, reached, run, items}
+use Rattle.container.specs.Views.{view_of}
+use Rattle.container.specs.declared.View.{View}
+use Rattle.container.specs.declared.sections.Stopped.{Stopped}
+use Rattle.names.specs.Names.{name_read}
+use Rattle.cache.specs.Calls.{slot_read}
+use Rattle.tikomuci.specs.Views.{view}
+use Rattle.tikomuci.specs.Sheets.{size}
+use Rattle.tikomuci.specs.Caches.{slot}
+use Rattle.tikomuci.specs.Boundary.{accepted, stopped_of, refused_as, refusal_of, pair_by, shown_by, Puts, Writes, WritesFloat, next_place, reached, run, items}
 
 -- An answer that shows x, which is known to be y, shows y.
 pub told : {A : Type 0} (f : A → Answer) {r : Answer} {x y : A} → r ≡ f x → x ≡ y → r ≡ f y
@@ -64,6 +72,21 @@ pub items-of : (w : ℕ) (s : List ℕ) (r : Result (Items × Reader) Refused) �
     shown_by (pair_by (λ v. v.count)) refused_of r ≡ items (got_items w s r)
 items-of w s (Ok (i, r)) = rw (length-nums i.count w (drop i.start s))
 items-of w s (Err x) = refl
+
+-- So are the answers of the calls on files, sheets and caches: a place ..
+pub view-of : (x : Result View Stopped) → shown_by (λ v. accepted v.start v.len) stopped_of x ≡ view (view_of x)
+view-of (Ok v) = refl
+view-of (Err x) = refl
+
+-- .. a length ..
+pub size-of : (x : Result ℕ Refusal) → shown_by (λ n. accepted n 0) refusal_of x ≡ size (name_read x)
+size-of (Ok n) = refl
+size-of (Err x) = refl
+
+-- .. and a slot.
+pub slot-of : (x : Result ℕ Stopped) → shown_by (λ n. accepted n 0) stopped_of x ≡ slot (slot_read x)
+slot-of (Ok n) = refl
+slot-of (Err x) = refl
 
 -- Two results of one call are equal, answer and output alike.
 pub puts-only : {f : Wrote → Answer} {n at required : ℕ} {bs out a b : List ℕ} {r s : Answer} →

@@ -7,18 +7,19 @@ use native.Mathlib.Omega.{arith}
 use native.Mathlib.Decide.{dec_le}
 use mathlib.Core.List.{List}
 use lib.ListN.{length, get_or}
+use Rattle.std.specs.Prelude.{Result}
+use Rattle.container.specs.declared.sections.Stopped.{Stopped}
 use Rattle.enums.specs.Refusals as refusals
 use Rattle.format.specs.Read.{Read, accepted, refused, map_read}
 use Rattle.format.specs.Decode.{decode}
 use Rattle.format.specs.Views.{and_then, constants_in}
 use Rattle.format.proofs.Refused.{decode-listed, row_listed}
 use Rattle.container.specs.Views.{view_of}
-use Rattle.container.specs.declared.ViewRead.{ViewRead}
+use Rattle.container.specs.declared.View.{View}
 use Rattle.slots.specs.Cache.{Slot, free, file_in, slot_of, slot_for, or_refused, put_in, drop_in, fetch_in}
 use Rattle.slots.specs.Lent.{Lent, slot_size, SlotKept}
 use Rattle.slots.specs.Meaning.{cache_of, of_cache, put_answer, fetch_answer, drop_answer, in_buffer}
 use Rattle.cache.specs.Calls.{slot_read, Writes, PutPost, DropPost, FetchPost}
-use Rattle.cache.specs.declared.SlotRead.{SlotRead}
 use Rattle.tikomuci.specs.declared.answers.Answer.{Answer}
 use Rattle.tikomuci.specs.Views.{view, span_in}
 use Rattle.tikomuci.specs.Caches.{slot, Changes, CachePut, CacheDropped, CacheFetched}
@@ -73,12 +74,12 @@ fetch-answered n i k s =
     (λ j. answered-map _ (listed-answered _ (row_listed constants_in (file_in (get_or c j free)) k))))
 
 -- A slot is shown.
-slot-shown : (x : SlotRead) {y : Read ℕ} {r : Answer} → Answered y → r ≡ slot (slot_read x) → slot_read x ≡ y → r.refusal ≡ 0 →
+slot-shown : (x : Result ℕ Stopped) {y : Read ℕ} {r : Answer} → Answered y → r ≡ slot (slot_read x) → slot_read x ≡ y → r.refusal ≡ 0 →
     slot_read x ≡ accepted r.first
 slot-shown x {r = r} p e a = size-told r (subst Answered (sym a) p) e
 
 -- A call that writes, shown.
-changed : {n : ℕ} {answers : Lent → Read ℕ} {leaves : Lent → Lent} {s s' : Lent} (x : SlotRead) {r : Answer} → Answered (answers s) →
+changed : {n : ℕ} {answers : Lent → Read ℕ} {leaves : Lent → Lent} {s s' : Lent} (x : Result ℕ Stopped) {r : Answer} → Answered (answers s) →
     r ≡ slot (slot_read x) → Writes answers leaves s s' x → ((c m a : ℕ) → slot_read x ≡ refused c m a → s' ≡ s) →
     ((k : ℕ) → slot_read x ≡ accepted k → (l : ℕ) → l < n → ¬ (l ≡ k) → SlotKept n l s s') → Changes n answers leaves s s' r
 changed x {r} p e w kept others =
@@ -90,13 +91,13 @@ changed x {r} p e w kept others =
     }
 
 -- Putting, shown.
-pub cache-put : (n i : ℕ) (file : List ℕ) (s s' : Lent) (x : SlotRead) (r : Answer) → r ≡ slot (slot_read x) → PutPost n i file s s' x →
+pub cache-put : (n i : ℕ) (file : List ℕ) (s s' : Lent) (x : Result ℕ Stopped) (r : Answer) → r ≡ slot (slot_read x) → PutPost n i file s s' x →
     CachePut n i file s s' r
 cache-put n i file s s' x r e p =
     record { changes = changed x (put-answered n i file s) e p.writes p.kept p.others; means = p.means }
 
 -- Dropping, shown.
-pub cache-dropped : (n i : ℕ) (s s' : Lent) (x : SlotRead) (r : Answer) → r ≡ slot (slot_read x) → DropPost n i s s' x →
+pub cache-dropped : (n i : ℕ) (s s' : Lent) (x : Result ℕ Stopped) (r : Answer) → r ≡ slot (slot_read x) → DropPost n i s s' x →
     CacheDropped n i s s' r
 cache-dropped n i s s' x r e p =
     let d = drop-answered n i s in
@@ -107,7 +108,7 @@ cache-dropped n i s s' x r e p =
     }
 
 -- Fetching, shown.
-pub cache-fetched : (n i k : ℕ) (s : Lent) (x : ViewRead) (r : Answer) → r ≡ view (view_of x) → FetchPost n i k s x →
+pub cache-fetched : (n i k : ℕ) (s : Lent) (x : Result View Stopped) (r : Answer) → r ≡ view (view_of x) → FetchPost n i k s x →
     CacheFetched n i k s r
 cache-fetched n i k s x r e p =
     let d = answered-map (in_buffer (slot_size n s.buffer)) (fetch-answered n i k s) in

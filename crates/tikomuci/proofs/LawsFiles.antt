@@ -3,6 +3,8 @@
 use mathlib.Core.Path.{◌≡◌, sym, ap, ◌∙◌}
 use Prim.Native.Nat.{ℕ}
 use mathlib.Core.List.{List}
+use Rattle.std.specs.Prelude.{Result}
+use Rattle.container.specs.declared.sections.Stopped.{Stopped}
 use Rattle.format.specs.SameToEnd.{SameToEnd}
 use Rattle.format.specs.Read.{map_read}
 use Rattle.format.specs.Decode.{decode}
@@ -10,7 +12,7 @@ use Rattle.format.specs.Stores.{read_into}
 use Rattle.format.proofs.Refused.{listed-map, decode-listed}
 use Rattle.format.proofs.AfterEnd.{after-end}
 use Rattle.format.proofs.Stored.{into-listed, into-after, sheet-after, pool-after}
-use Rattle.payloads.specs.declared.FileRead.{FileRead}
+use Rattle.payloads.specs.declared.Need.{Need}
 use Rattle.payloads.specs.Whole.{need_of, file_read}
 use Rattle.decoder.specs.File.{MeasurePost, ReadPost}
 use Rattle.tikomuci.specs.declared.answers.Answer.{Answer}
@@ -19,7 +21,7 @@ use Rattle.tikomuci.proofs.LawsBoundary.{told}
 use Rattle.tikomuci.proofs.LawsTold.{need-told, need-refused}
 
 -- Measuring, shown.
-pub file-measured : (file : List ℕ) (x : FileRead) (r : Answer) → r ≡ needed (file_read x) → MeasurePost file x → Measured file r
+pub file-measured : (file : List ℕ) (x : Result Need Stopped) (r : Answer) → r ≡ needed (file_read x) → MeasurePost file x → Measured file r
 file-measured file x r e p =
     record {
       answer = told needed e p.answer;
@@ -38,7 +40,7 @@ pub measured-after : {file other : List ℕ} → SameToEnd file other → {r s :
 measured-after e p q = p.answer ∙ ap (λ d. needed (map_read need_of d)) (after-end e) ∙ sym q.answer
 
 -- Reading, shown.
-pub file-done : (file s s' p p' : List ℕ) (x : FileRead) (r : Answer) → r ≡ needed (file_read x) → ReadPost file s s' p p' x →
+pub file-done : (file s s' p p' : List ℕ) (x : Result Need Stopped) (r : Answer) → r ≡ needed (file_read x) → ReadPost file s s' p p' x →
     FileDone file s s' p p' r
 file-done file s s' p p' x r e q =
     record {

@@ -5,18 +5,18 @@ use Prim.Native.Nat.{ℕ}
 use native.Mathlib.Omega.{arith}
 use mathlib.Core.List.{List}
 use lib.ListN.{length}
+use Rattle.std.specs.Prelude.{Result}
+use Rattle.enums.specs.declared.Refusal.{Refusal}
 use Rattle.format.specs.Read.{Read, accepted, refused, map_read}
 use Rattle.images.specs.Written.{image_size}
-use Rattle.images.specs.declared.Imaged.{Imaged}
 use Rattle.names.specs.Names.{name_for, with_name, name_read}
-use Rattle.names.specs.declared.Named.{Named}
 use Rattle.writer.specs.Written.{WritePost, ImagePost}
 use Rattle.tikomuci.specs.declared.answers.Answer.{Answer}
 use Rattle.tikomuci.specs.Sheets.{size, SheetWritten, SheetImaged, TypeNamed}
 use Rattle.tikomuci.proofs.LawsTold.{room-told, length-told, size-refused}
 
 -- Writing, shown.
-pub sheet-written : (s pool out out' : List ℕ) (x : Imaged) (r : Answer) → r ≡ size (image_size x) → WritePost s pool out out' x →
+pub sheet-written : (s pool out out' : List ℕ) (x : Result ℕ Refusal) (r : Answer) → r ≡ size (image_size x) → WritePost s pool out out' x →
     SheetWritten s pool out out' r
 sheet-written s pool out out' x r e p =
     record {
@@ -32,7 +32,7 @@ pub sheet-written-only : {s pool out out' out'' : List ℕ} {r q : Answer} → S
 sheet-written-only x y = (x.answer ∙ sym y.answer, x.output ∙ sym y.output)
 
 -- Measuring what would be written, shown.
-pub sheet-imaged : (s : List ℕ) (x : Imaged) (r : Answer) → r ≡ size (image_size x) → ImagePost s x → SheetImaged s r
+pub sheet-imaged : (s : List ℕ) (x : Result ℕ Refusal) (r : Answer) → r ≡ size (image_size x) → ImagePost s x → SheetImaged s r
 sheet-imaged s x r e p =
     record {
       answer = e ∙ ap size p.answer;
@@ -50,7 +50,7 @@ kept-name out (accepted t) e = absurd (let z : ◌≡◌ {A = ℕ} 0 1 = cc in o
 kept-name out (refused c n i) e = refl
 
 -- Naming a type, shown.
-pub type-named : (s : List ℕ) (row : ℕ) (out out' : List ℕ) (x : Named) (r : Answer) → r ≡ size (name_read x) →
+pub type-named : (s : List ℕ) (row : ℕ) (out out' : List ℕ) (x : Result ℕ Refusal) (r : Answer) → r ≡ size (name_read x) →
     (name_read x ≡ map_read length (name_for s row out)) × (out' ≡ with_name out (name_for s row out)) → TypeNamed s row out out' r
 type-named s row out out' x r e p =
     record {

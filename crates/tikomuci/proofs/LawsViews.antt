@@ -3,6 +3,8 @@
 use mathlib.Core.Path.{◌≡◌, sym, ap, ◌∙◌}
 use Prim.Native.Nat.{ℕ}
 use mathlib.Core.List.{List}
+use Rattle.std.specs.Prelude.{Result}
+use Rattle.container.specs.declared.sections.Stopped.{Stopped}
 use Rattle.exact.specs.Entries.{Rows}
 use Rattle.format.specs.Explains.{Placed}
 use Rattle.format.specs.SameToEnd.{SameToEnd}
@@ -10,7 +12,7 @@ use Rattle.format.specs.Views.{row_view, section_view}
 use Rattle.format.proofs.Refused.{row_listed, section-listed}
 use Rattle.format.proofs.AfterEnd.{row-view-after, section-view-after}
 use Rattle.container.specs.Views.{SectionPost, view_of}
-use Rattle.container.specs.declared.ViewRead.{ViewRead}
+use Rattle.container.specs.declared.View.{View}
 use Rattle.decoder.specs.Views.{RowPost}
 use Rattle.tikomuci.specs.declared.answers.Answer.{Answer}
 use Rattle.tikomuci.specs.Views.{view, span_in, SectionViewed, RowViewed}
@@ -18,7 +20,7 @@ use Rattle.tikomuci.proofs.LawsBoundary.{told}
 use Rattle.tikomuci.proofs.LawsTold.{span-told}
 
 -- A section's view, shown.
-pub section-viewed : (file : List ℕ) (id : ℕ) (x : ViewRead) (r : Answer) → r ≡ view (view_of x) → SectionPost file id x → SectionViewed file id r
+pub section-viewed : (file : List ℕ) (id : ℕ) (x : Result View Stopped) (r : Answer) → r ≡ view (view_of x) → SectionPost file id x → SectionViewed file id r
 section-viewed file id x r e p =
     record {
       answer = told view e p.answer;
@@ -38,7 +40,7 @@ pub section-viewed-after : {file other : List ℕ} → SameToEnd file other → 
 section-viewed-after e {id} p q = p.answer ∙ ap view (section-view-after e id) ∙ sym q.answer
 
 -- A row's view, shown.
-pub row-viewed : (rows_in : Placed → Rows (List ℕ)) (id : ℕ) (file : List ℕ) (k : ℕ) (x : ViewRead) (r : Answer) → r ≡ view (view_of x) →
+pub row-viewed : (rows_in : Placed → Rows (List ℕ)) (id : ℕ) (file : List ℕ) (k : ℕ) (x : Result View Stopped) (r : Answer) → r ≡ view (view_of x) →
     RowPost rows_in id file k x → RowViewed rows_in id file k r
 row-viewed rows_in id file k x r e p =
     record {

@@ -18,6 +18,7 @@ ghost use Rattle.encoding.specs.Out.{counted_bytes, required};
 ghost use Rattle.encoding.specs.Signed.{zigzag, pattern};
 ghost use Rattle.encoding.specs.Varint.{spelling};
 ghost use Rattle.reading.specs.Numbers.{varint_at, signed_varint_at, signed_at, padding_at, items_at, remaining_at, placed};
+ghost use Rattle.reading.specs.Shown.{got_padding};
 ghost use Rattle.enums.specs.Container.{string_id, constant_id, func_id};
 ghost use Rattle.format.specs.Views.{strings_in, constants_in, bodies_in};
 ghost use Rattle.tikomuci.specs.Boundary.{abi, refused_as, Puts, Writes, WritesFloat, Patches, next_place, next_aligned, number, signed_number, reached, run, items, skipped};
@@ -29,7 +30,7 @@ ghost use Rattle.tikomuci.specs.Caches.{cache_slots, session_slots, CachePut, Ca
 use answers::{Answer, Shown};
 use encoding::{EncodingWriter, FloatType};
 use enums::Refusal;
-use reading::Reader;
+use reading::{Reader, Refused};
 
 const ABI: u64 = 1;
 
@@ -56,8 +57,22 @@ fn reader(at: u64) -> Reader
     Reader { pos: at as usize }
 }
 
+// Padding from a place on: how many bytes, and the next place.
+fn padded(at: u64, padding: Result<Reader, Refused>) -> Answer
+    ensures { result ≡ skipped at (got_padding padding) }
+{
+    match padding {
+        Ok(next) => {
+            let place = next.pos as u64;
+            Answer::accept(place.saturating_sub(at), place)
+        }
+        Err(refused) => refused.show(),
+    }
+}
+
 // The answer of a reader, unless its place is past the data: a read there is refused, even one of no bytes. The readers
 // below do not ask, since inside a file no reader stands past the end.
+#[tactic(auto, unfolding(exact::specs::Choice::choose))]
 fn unless_past(data: &[u8], at: u64, answer: Answer) -> Answer
     ensures { result ≡ choose (dec_le at (length «data».now)) answer (refused_as refusals.short) }
 {
@@ -379,10 +394,7 @@ pub extern "C" fn tikomuci_read_le_var_size_i32(data: &[u8], at: u64) -> Answer
 pub extern "C" fn tikomuci_skip_padding(data: &[u8], at: u64, alignment: u64) -> Answer
     ensures { result ≡ skipped at (reached (padding_at alignment) «data».now at) }
 {
-    let padding = match reader(at).skip_padding(data, alignment) {
-        Ok(next) => Answer::accept((next.pos as u64).saturating_sub(at), next.pos as u64),
-        Err(refused) => refused.show(),
-    };
+    let padding = padded(at, reader(at).skip_padding(data, alignment));
     unless_past(data, at, padding)
 }
 

@@ -11,4 +11,4 @@ returns c =
     let read = c.read_bytes in
     let given = c.args in
     shown-past run (λ c k. refl) (placed (raw given.n)) given.«data».now given.at c.unless_past.ensures
-    (c.bytes_read.ensures ∙ told run (run-of given.«data».now read.result) read.ensures)
+    (c.show.ensures ∙ told run (run-of given.«data».now read.result) (rw c.reader.ensures at read.ensures))

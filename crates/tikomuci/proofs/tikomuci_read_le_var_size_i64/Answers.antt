@@ -7,5 +7,4 @@ use Rattle.tikomuci.proofs.tikomuci_read_le_var_size_i64.Goals as goal
 pub returns : goal.returns
 returns c =
     let read = c.read_le_var_size_i64 in
-    let given = c.args.«data».now in
-    c.items_read.ensures ∙ told items (items-of 8 given read.result) read.ensures
+    c.show.ensures ∙ told items (items-of _ _ read.result) (rw c.reader.ensures at read.ensures)

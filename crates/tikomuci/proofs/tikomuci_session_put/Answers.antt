@@ -1,6 +1,8 @@
 -- `tikomuci_session_put` answers and leaves what the crate below did. Assumes nothing.
+use mathlib.Core.Path.{◌∙◌}
+use Rattle.tikomuci.proofs.LawsBoundary.{slot-of}
 use Rattle.tikomuci.proofs.LawsCaches.{cache-put}
 use Rattle.tikomuci.proofs.tikomuci_session_put.Goals as goal
 
 pub returns : goal.returns
-returns c = cache-put _ _ _ _ _ _ _ c.slotted.ensures c.put.ensures
+returns c = cache-put _ _ _ _ _ _ _ (c.show.ensures ∙ slot-of _) c.put.ensures

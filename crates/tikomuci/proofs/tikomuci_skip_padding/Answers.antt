@@ -9,4 +9,4 @@ pub returns : goal.returns
 returns c =
     let given = c.args in
     shown-past (skipped given.at) (λ c k. refl) (padding_at given.alignment) given.«data».now given.at
-    c.unless_past.ensures (told (skipped _) c.padding_read-padding.ensures c.skip_padding.ensures)
+    c.unless_past.ensures (told (skipped _) c.padded-padding.ensures (rw c.reader.ensures at c.skip_padding.ensures))

@@ -1,7 +1,0 @@
--- `tikomuci_patch_u64` answers what crate encoding answered. Assumes nothing.
-use Rattle.tikomuci.specs.Boundary.{next_place}
-use Rattle.tikomuci.proofs.LawsBoundary.{puts}
-use Rattle.tikomuci.proofs.tikomuci_patch_u64.Goals as goal
-
-pub returns : goal.returns
-returns c = puts next_place c.patched.ensures c.patch_u64.ensures

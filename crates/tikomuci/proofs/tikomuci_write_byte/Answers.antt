@@ -1,7 +1,0 @@
--- `tikomuci_write_byte` answers what crate encoding answered. Assumes nothing.
-use Rattle.tikomuci.specs.Boundary.{next_place}
-use Rattle.tikomuci.proofs.LawsBoundary.{puts}
-use Rattle.tikomuci.proofs.tikomuci_write_byte.Goals as goal
-
-pub returns : goal.returns
-returns c = puts next_place c.written.ensures c.write_byte.ensures

@@ -1,8 +1,0 @@
--- `u16_read` shows what was answered below. Assumes nothing.
-use Rattle.tikomuci.proofs.u16_read.Goals as goal
-
-pub returns-in-Got : goal.returns-in-Got
-returns-in-Got c = rw c.in-Got.is c.accept.ensures
-
-pub returns-in-Stop : goal.returns-in-Stop
-returns-in-Stop c = rw c.in-Stop.is c.refuse.ensures
