@@ -120,6 +120,11 @@ module _ (p : Parser (ℕ × List ℕ)) (q : ℕ → Parser (ℕ × List ℕ)) {
         within = y.within;
       }
 
+-- A step from where the step before it has ended: a refusal is handed out.
+abbrev pub Next : ℕ → Parser (ℕ × List ℕ) → List ℕ → Result Spot Refused → List ℕ → List ℕ → Result Spot Refused → Type 0
+Next n p l (Ok t) s s' r = Step n p l t s s' r
+Next n p l (Err x) s s' r = r ≡ Err x
+
 -- A step by a parser that answers the same.
 pub step-same : {n : ℕ} (p q : Parser (ℕ × List ℕ)) {l s s' : List ℕ} {t : Spot} {r : Result Spot Refused} → p l t.pos ≡ q l t.pos →
     Step n p l t s s' r → Step n q l t s s' r

@@ -2,7 +2,7 @@
 use Rattle.std.specs.Prelude.{Result, Ok, Err}
 use Rattle.reading.specs.declared.Refused.{Refused}
 use mathlib.Core.Path.{◌≡◌, refl, sym, ap, ◌∙◌, subst}
-use Prim.Native.Nat.{ℕ, ◌+◌, ◌%◌, ◌≤◌}
+use Prim.Native.Nat.{ℕ, ◌+◌, ◌≤◌}
 use native.Mathlib.Decide.{ℕ_discrete}
 use native.Mathlib.Omega.{arith}
 use mathlib.Core.Bool.{Bool, true, false, Bool-discrete}
@@ -36,7 +36,6 @@ use Rattle.format.specs.DecodeTypes.{
   function_type_at,
 }
 use Rattle.enums.specs.Types as tags
-use Rattle.enums.specs.Version.{since13_4}
 use Rattle.sheet.specs.Store.{put_word, put_words}
 use Rattle.payloads.specs.declared.fields.Number.{Number}
 use Rattle.payloads.specs.declared.fields.Number.TheVariants.{Varint, I32, I64}
@@ -135,15 +134,6 @@ bit_test a b p t e =
 pub field-if : (a b : ℕ) (p : Parser ℕ) → field_if (eqb a b) p ≡ field_at (ℕ_discrete a b) p
 unfolding field_if
 field-if a b p = bit_test a b p (eqb a b) refl
-
-pub byte-if : (flags : ℕ) → field_if (eqb (flags % 2) 1) byte ≡ byte_if flags
-unfolding field_if byte_if
-byte-if flags = bit_test (flags % 2) 1 byte (eqb (flags % 2) 1) refl
-
--- Flags by the version class, as it is tested.
-pub flags-if : (c : VersionClass) (t : Bool) → t ≡ since13_4 c → field_if t varint_at ≡ flags_at c
-unfolding field_if flags_at
-flags-if c t e = ap (λ t. field_at (Bool-discrete t true) varint_at) e
 
 -- Steps one after the other, each of which may depend on the value of the one before.
 pub data Steps : Type 0 where

@@ -11,7 +11,7 @@ ghost use Rattle.entries.specs.Starts.{Lies};
 ghost use Rattle.payloads.specs.TypeRows.{partition_at, Row, Kind, Spare, Short, words_of, entries_by, type_rows};
 ghost use Rattle.payloads.specs.Fill.{Fits, Fills};
 
-use crate::answers::{Filled, TableRead};
+use crate::answers::{Filled, TableRead, raised};
 use crate::fields::{
     Number, Spot, copy_byte_if, copy_flags, copy_list, copy_number, copy_number_if, put_value,
 };
@@ -226,18 +226,10 @@ fn decode_type_entries(
         let behind = next_entry(run, Width::Four, data.len(), 0, from)?;
         let start = from.start.0;
         let end = behind.start.0;
-        match decode_type_entry(&data[start..end], class, sheet, next) {
-            Err(refused) => {
-                return Err(Refused {
-                    at: base + start + refused.at,
-                    ..refused
-                });
-            }
-            Ok(row) => {
-                next = row.word;
-                from = behind;
-            }
-        }
+        let entry = &data[start..end];
+        let row = raised(decode_type_entry(entry, class, sheet, next), base + start)?;
+        next = row.word;
+        from = behind;
     }
     Ok(Spot {
         pos: payload.len(),
