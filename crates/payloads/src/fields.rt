@@ -3,14 +3,13 @@
 ghost use Rattle.std.specs.Prelude.{◌≡◌, ◌+◌, ◌*◌, ◌^◌, ◌≤◌, ◌<◌, length};
 ghost use Rattle.exact.specs.Fixed.{little, fixed, nums};
 ghost use Rattle.reading.specs.Numbers.{varint_at};
-ghost use Rattle.reading.specs.Shown.{got_of};
 ghost use Rattle.format.specs.DecodeTypes.{flags_at, byte_if};
 ghost use Rattle.sheet.specs.Store.{put_word, put_words};
 ghost use Rattle.payloads.specs.declared.fields.Number.TheVariants as kinds;
-ghost use Rattle.payloads.specs.Fields.{number_at, Room, Near, Step, as_word, listed, several, numbers, field_if};
+ghost use Rattle.payloads.specs.Fields.{Room, Near, Step, as_word, listed, several, numbers, field_if};
 
 use enums::{Refusal, VersionClass};
-use reading::{Read, Reader, Refused};
+use reading::{Reader, Refused};
 
 // How far an entry is read and its row is filled: the number that was copied last (of a list its count), the next byte,
 // and the next word. In an answer a refusal shares the memory of the first field, which is why that is the one that is
@@ -125,7 +124,8 @@ fn copy_each(entry: &[u8], sheet: &mut [u8], count: u64, at: Spot) -> Result<Spo
     })
 }
 
-// The number that a run of at most eight bytes is, the lowest first. Of a known length it compiles to one load.
+// The number that a run of at most eight bytes is, the lowest first. Of four bytes it compiles to one load, where the
+// compiler knows that there are four.
 fn number_of(run: &[u8]) -> u64
     requires { length run.now ≤ 8 }
     ensures { result ≡ little run.now }
