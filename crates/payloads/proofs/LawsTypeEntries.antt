@@ -9,7 +9,7 @@ use lib.Dec.{eqb}
 use mir.Val.{bool_byte}
 use native.Mathlib.Decide.{ℕ_discrete}
 use native.Mathlib.Omega.{arith}
-use mathlib.Core.Bool.{Bool, true, false, not, Bool-discrete, false≢true}
+use mathlib.Core.Bool.{Bool, true, false, not, Bool-discrete}
 use mathlib.Core.List.{List, [], ◌∷◌, ◌++◌}
 use lib.ListN.{length, length-append}
 use Rattle.exact.specs.Got.{Got, got, stop, follow}
@@ -27,7 +27,6 @@ use Rattle.exact.specs.Kinds.{Case}
 use Rattle.enums.specs.Refusals as refusals
 use Rattle.enums.specs.Types as tags
 use Rattle.enums.specs.declared.VersionClass.{VersionClass}
-use Rattle.enums.specs.Version.{since13_3}
 use Rattle.reading.specs.Numbers.{varint_at}
 use Rattle.reading.specs.declared.Refused.{Refused}
 use Rattle.format.specs.Tables.{TypeRow, plain}
@@ -35,26 +34,14 @@ use Rattle.format.specs.Items.{truth}
 use Rattle.format.specs.Types.{plain_tags, among}
 use Rattle.format.specs.Sheet.{field_words, type_words}
 use Rattle.format.specs.DecodeTables.{field_at}
-use Rattle.format.specs.DecodeTypes.{
-  pointer_at,
-  tile_at,
-  tensor_view_at,
-  partition_view_at,
-  old_partition_view_at,
-  gather_scatter_view_at,
-  strided_view_at,
-  function_type_at,
-  kinds,
-  fields_at,
-  type_entry_at,
-}
+use Rattle.format.specs.DecodeTypes.{old_partition_view_at, kinds, fields_at, type_entry_at}
 use Rattle.format.proofs.LawsItems.{truth-zero, truth-one}
 use Rattle.sheet.specs.Store.{put_word, put_words}
 use Rattle.sheet.proofs.LawsStore.{put_words-append}
 use Rattle.payloads.specs.declared.fields.Number.TheVariants.{Byte}
 use Rattle.payloads.specs.declared.fields.Spot.{Spot}
 use Rattle.payloads.specs.Fields.{number_at, as_word, Put, Step}
-use Rattle.payloads.specs.TypeRows.{partition_at, place_of, Row, Kind}
+use Rattle.payloads.specs.TypeRows.{place_of, Row, Kind}
 use Rattle.payloads.proofs.LawsWords.{word-before}
 use Rattle.payloads.proofs.LawsFields.{map-got, map-stop, number_in, number-stop, put-got, put-err, put-stop, within-then, within-most}
 use Rattle.payloads.proofs.LawsTypes.{Via, unput, old_end, old_steps, old-says, Ran, run, stopped}
@@ -166,28 +153,7 @@ old_kind {n} {m} {l} {s} {s₁} {s₂} {s'} at {b} {r} few y p z =
           (within-then l (2 + n) m at.pos at.word b r (omega (arith, y.step.within.1)) z.within);
     }
 
--- A kind by a parser that is the same.
-pub kind-as : {P Q : Parser TypeRow} {l s s' : List ℕ} {t : Spot} {r : Result Spot Refused} → P ≡ Q → Kind P l t s s' r → Kind Q l t s s' r
-kind-as {l = l} {s} {s'} {t} {r} e x = subst (λ P. Kind P l t s s' r) e x
-
--- Partition views by class.
-pub partition-since : (c : VersionClass) {b : Bool} → b ≡ since13_3 c → b ≡ true → partition_view_at ≡ partition_at c
-partition-since c e h = sym (choose_yes (Bool-discrete (since13_3 c) true) _ _ (sym e ∙ h))
-
-pub partition-below : (c : VersionClass) {b : Bool} → b ≡ since13_3 c → b ≡ false → old_partition_view_at ≡ partition_at c
-partition-below c e h = sym (choose_no (Bool-discrete (since13_3 c) true) _ _ (λ k. false≢true (sym h ∙ e ∙ k)))
-
--- Behind the first two.
-abbrev tail2 : {A : Type 1} → List A → List A
-tail2 [] = []
-tail2 (x ∷ []) = []
-tail2 (x ∷ y ∷ xs) = xs
-
 -- The kinds by tag, and the tags without fields.
-pick-here : (c k : ℕ) (x : Case TypeRow) (xs : List (Case TypeRow)) (t : ℕ) → t ≡ x.tag → pick_at c k (x ∷ xs) t ≡ x.run
-unfolding pick_at
-pick-here c k x xs t e = choose_yes (ℕ_discrete t x.tag) _ _ e
-
 pick-past : (c k : ℕ) (x : Case TypeRow) (xs : List (Case TypeRow)) (t : ℕ) → ¬ (t ≡ x.tag) → pick_at c k (x ∷ xs) t ≡ pick_at c k xs t
 unfolding pick_at
 pick-past c k x xs t e = choose_no (ℕ_discrete t x.tag) _ _ e
@@ -208,50 +174,12 @@ module _ (c : VersionClass) (t : ℕ) where
   unfolding fields_at
   fields-plain e = choose_yes (Bool-discrete (among t plain_tags) true) _ _ e
 
-  pub kind-pointer : t ≡ 12 → pointer_at c ≡ fields_at c 0 t
-  kind-pointer e = sym (fields-kind (ap (λ t. among t plain_tags) e) ∙ pick-here _ _ _ _ t e)
-
-  pub kind-tile : t ≡ 13 → tile_at ≡ fields_at c 0 t
-  kind-tile e =
-      sym (fields-kind (ap (λ t. among t plain_tags) e) ∙ pick-past _ _ _ _ t (λ f. omega arith) ∙ pick-here _ _ _ _ t e)
-
-  past2 : ¬ (t ≡ 12) → ¬ (t ≡ 13) → among t plain_tags ≡ false → fields_at c 0 t ≡ pick_at refusals.type_tag 0 (tail2 (kinds c)) t
-  past2 a b e = fields-kind e ∙ pick-past _ _ _ _ t a ∙ pick-past _ _ _ _ t b
-
-  pub kind-tensor : t ≡ 14 → tensor_view_at c ≡ fields_at c 0 t
-  kind-tensor e = sym (past2 (λ f. omega arith) (λ f. omega arith) (ap (λ t. among t plain_tags) e) ∙ pick-here _ _ _ _ t e)
-
-  pub kind-partition : t ≡ 15 → partition_at c ≡ fields_at c 0 t
-  kind-partition e =
-      sym (past2 (λ f. omega arith) (λ f. omega arith) (ap (λ t. among t plain_tags) e) ∙ pick-past _ _ _ _ t (λ f. omega arith) ∙
-      pick-here _ _ _ _ t e)
-
-  past4 : ¬ (t ≡ 12) → ¬ (t ≡ 13) → ¬ (t ≡ 14) → ¬ (t ≡ 15) → among t plain_tags ≡ false →
-      fields_at c 0 t ≡ pick_at refusals.type_tag 0 (tail2 (tail2 (kinds c))) t
-  past4 a b d f e = past2 a b e ∙ pick-past _ _ _ _ t d ∙ pick-past _ _ _ _ t f
-
-  pub kind-function : t ≡ 16 → function_type_at ≡ fields_at c 0 t
-  kind-function e =
-      sym (past4 (λ f. omega arith) (λ f. omega arith) (λ f. omega arith) (λ f. omega arith) (ap (λ t. among t plain_tags) e) ∙
-      pick-here _ _ _ _ t e)
-
-  pub kind-gather : t ≡ 20 → gather_scatter_view_at ≡ fields_at c 0 t
-  kind-gather e =
-      sym (past4 (λ f. omega arith) (λ f. omega arith) (λ f. omega arith) (λ f. omega arith) (ap (λ t. among t plain_tags) e) ∙
-      pick-past _ _ _ _ t (λ f. omega arith) ∙ pick-here _ _ _ _ t e)
-
-  pub kind-strided : t ≡ 21 → strided_view_at ≡ fields_at c 0 t
-  kind-strided e =
-      sym (past4 (λ f. omega arith) (λ f. omega arith) (λ f. omega arith) (λ f. omega arith) (ap (λ t. among t plain_tags) e) ∙
-      pick-past _ _ _ _ t (λ f. omega arith) ∙ pick-past _ _ _ _ t (λ f. omega arith) ∙ pick-here _ _ _ _ t e)
-
   unknown-fields : 22 < t → among t plain_tags ≡ false → fields_at c 0 t ≡ refuse refusals.type_tag 0
   unknown-fields h e =
-      let a : ¬ (t ≡ 16) = λ f. omega arith in
-      let b : ¬ (t ≡ 20) = λ f. omega arith in
-      let d : ¬ (t ≡ 21) = λ f. omega arith in
-      past4 (λ f. omega arith) (λ f. omega arith) (λ f. omega arith) (λ f. omega arith) e ∙ pick-past _ _ _ _ t a ∙
-      pick-past _ _ _ _ t b ∙ pick-past _ _ _ _ t d ∙ pick-none _ _ t
+      let far : (u : ℕ) → u ≤ 22 → ¬ (t ≡ u) = λ u l f. omega arith in
+      fields-kind e ∙ pick-past _ _ _ _ t (far 12 (omega arith)) ∙ pick-past _ _ _ _ t (far 13 (omega arith)) ∙
+      pick-past _ _ _ _ t (far 14 (omega arith)) ∙ pick-past _ _ _ _ t (far 15 (omega arith)) ∙ pick-past _ _ _ _ t (far 16 (omega arith)) ∙
+      pick-past _ _ _ _ t (far 20 (omega arith)) ∙ pick-past _ _ _ _ t (far 21 (omega arith)) ∙ pick-none _ _ t
 
 -- None of these.
 abbrev NoneOf : ℕ → List ℕ → Type 0

@@ -136,6 +136,7 @@ fn function(entry: &[u8], sheet: &mut [u8], at: Spot) -> Result<Spot, Refused>
 }
 
 // A partition view, by the version class.
+#[tactic(auto, unfolding(exact::specs::Choice::choose))]
 fn any_partition_view(
     entry: &[u8],
     class: VersionClass,
@@ -152,6 +153,7 @@ fn any_partition_view(
 }
 
 // The tag and what stands behind it, by kind; a tag that is not known is refused at the entry's first byte.
+#[tactic(auto, unfolding(format::specs::DecodeTypes::fields_at, format::specs::DecodeTypes::kinds, exact::specs::Refuse::pick_at, exact::specs::Choice::choose))]
 fn decode_fields(
     entry: &[u8],
     class: VersionClass,
@@ -179,6 +181,7 @@ fn decode_fields(
 }
 
 // A type entry: the number of words that follow is put when they are. What is left of the entry is passed over.
+#[tactic(auto, unfolding(crate::specs::TypeRows::Row, crate::specs::TypeRows::place_of, format::specs::DecodeTypes::type_entry_at, exact::specs::Upto::upto, exact::specs::Padding::here, exact::specs::Sequence::mapped, exact::specs::Sequence::bind, exact::specs::Got::follow))]
 fn decode_type_entry(
     entry: &[u8],
     class: VersionClass,

@@ -5,31 +5,10 @@ use Prim.Native.Nat.{◌<◌}
 use native.Mathlib.Omega.{arith}
 use mathlib.Core.Bool.{true}
 use Rattle.format.specs.Types.{plain_tags, among}
-use Rattle.payloads.proofs.LawsTypeEntries.{kind-as, kind-pointer, kind-tile, kind-tensor, kind-partition, kind-function, kind-gather, kind-strided, plain_kind, unknown-kind}
+use Rattle.payloads.proofs.LawsTypeEntries.{plain_kind, unknown-kind}
 use Rattle.format.proofs.LawsTags.{plain-low}
 use Rattle.payloads.proofs.types.decode_fields.Goals as goal
 use Rattle.payloads.proofs.types.decode_fields.Goals.{in-22-1, in_default+then-tag-lt20}
-
-pub returns-in-12 : goal.returns-in-12
-returns-in-12 c = kind-as (kind-pointer _ _ c.in-12.is) c.pointer.ensures
-
-pub returns-in-13 : goal.returns-in-13
-returns-in-13 c = kind-as (kind-tile _ _ c.in-13.is) c.tile.ensures
-
-pub returns-in-14 : goal.returns-in-14
-returns-in-14 c = kind-as (kind-tensor _ _ c.in-14.is) c.tensor_view.ensures
-
-pub returns-in-15 : goal.returns-in-15
-returns-in-15 c = kind-as (kind-partition _ _ c.in-15.is) c.any_partition_view.ensures
-
-pub returns-in-16 : goal.returns-in-16
-returns-in-16 c = kind-as (kind-function _ _ c.in-16.is) c.function.ensures
-
-pub returns-in-20 : goal.returns-in-20
-returns-in-20 c = kind-as (kind-gather _ _ c.in-20.is) c.gather_scatter_view.ensures
-
-pub returns-in-21 : goal.returns-in-21
-returns-in-21 c = kind-as (kind-strided _ _ c.in-21.is) c.strided_view.ensures
 
 pub returns-in_default : goal.returns-in_default
 returns-in_default c =
