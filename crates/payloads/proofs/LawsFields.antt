@@ -4,7 +4,6 @@ use Prim.Native.Nat.{ℕ, zero, suc, ◌+◌, ◌-◌, ◌%◌, ◌≤◌, ◌<�
 use native.Mathlib.Nat.{add-zero}
 use native.Mathlib.Decide.{dec_le, ℕ_discrete}
 use native.Mathlib.Omega.{arith}
-use mathlib.Core.Bool.{Bool, false}
 use mathlib.Core.List.{List, [], ◌∷◌, ◌++◌}
 use lib.ListN.{length, length-append}
 use Rattle.std.specs.Prelude.{Result, Ok, Err}
@@ -12,7 +11,6 @@ use Rattle.exact.specs.Got.{Got, got, stop, ended, follow}
 use Rattle.exact.specs.Exact.{Parser}
 use Rattle.exact.specs.Basic.{pure}
 use Rattle.exact.specs.Sequence.{bind, mapped}
-use Rattle.exact.specs.Choice.{choose}
 use Rattle.exact.specs.Repeat.{times, counted}
 use Rattle.exact.specs.Fixed.{fixed}
 use Rattle.exact.specs.Padding.{broke, blamed}
@@ -32,7 +30,7 @@ use Rattle.sheet.proofs.LawsStore.{put_words-append}
 use Rattle.payloads.specs.declared.fields.Number.{Number}
 use Rattle.payloads.specs.declared.fields.Number.TheVariants.{Varint, Byte, I32, I64}
 use Rattle.payloads.specs.declared.fields.Spot.{Spot}
-use Rattle.payloads.specs.Fields.{number_at, field_if, as_word, listed, several, numbers, Put, Within, Step}
+use Rattle.payloads.specs.Fields.{number_at, as_word, listed, several, numbers, Put, Within, Step}
 
 -- What a function of a parser's value answers.
 module _ {A B : Type 0} (f : A → B) (p : Parser A) (l : List ℕ) (i : ℕ) where
@@ -131,11 +129,7 @@ pub step-same : {n : ℕ} (p q : Parser (ℕ × List ℕ)) {l s s' : List ℕ} {
 step-same p q {s = s} {s' = s'} {t = t} {r = r} e x =
     record { put = subst (λ g. Put g t.word s s' r) e x.put; within = x.within }
 
--- A field that is absent is 0, and one that is there is read.
-pub field-absent : (p : Parser ℕ) {there : Bool} (l : List ℕ) (i : ℕ) → there ≡ false → got 0 i ≡ field_if there p l i
-unfolding field_if field_at choose pure
-field-absent p l i e = rw e
-
+-- A byte that is absent is 0, and one that is there is read.
 pub byte-absent : (flags : ℕ) (l : List ℕ) (i : ℕ) → ¬ (flags % 2 ≡ 1) → got 0 i ≡ byte_if flags l i
 unfolding byte_if field_at pure
 byte-absent flags l i h = ap (λ (p : Parser ℕ). p l i) (sym (choose_no (ℕ_discrete (flags % 2) 1) _ _ h))
@@ -291,16 +285,9 @@ module _ (k : Number) (l : List ℕ) (i : ℕ) where
   pub list_same : then (as_word varint_at) (λ n. numbers n n k) l i ≡ listed k l i
   list_same = list_count (varint_at l i) refl
 
--- A count and then as many numbers are a list ..
+-- A count and then as many numbers are a list.
 pub list-then : (k : Number) {n m : ℕ} {l s s₁ s' : List ℕ} {t u : Spot} {r : Result Spot Refused} → Step n (as_word varint_at) l t s s₁ (Ok u) →
     Step m (numbers u.value u.value k) l u s₁ s' r → Step (n + m) (listed k) l t s s' r
 list-then k {l = l} {t = t} x y =
     step-same (then (as_word varint_at) (λ n. numbers n n k)) (listed k) (list_same k l t.pos)
     (step-then (as_word varint_at) (λ n. numbers n n k) x y)
-
--- .. or the count was refused.
-pub list-stop : (k : Number) {n : ℕ} {l s s' : List ℕ} {t : Spot} {x : Refused} → Step n (as_word varint_at) l t s s' (Err x) →
-    Step n (listed k) l t s s' (Err x)
-list-stop k {l = l} {t = t} y =
-    step-same (then (as_word varint_at) (λ n. numbers n n k)) (listed k) (list_same k l t.pos)
-    (step-stop (as_word varint_at) (λ n. numbers n n k) y)

@@ -58,7 +58,7 @@ pub fn copy_number(entry: &[u8], sheet: &mut [u8], at: Spot) -> Result<Spot, Ref
 }
 
 // Copies a varint if it is there; else a word 0 stands for it.
-#[tactic(auto, unfolding(crate::specs::Fields::field_if, format::specs::DecodeTables::field_at, exact::specs::Choice::choose))]
+#[tactic(auto, unfolding(crate::specs::Fields::field_if, format::specs::DecodeTables::field_at, exact::specs::Choice::choose, crate::specs::Fields::Put, crate::specs::Fields::as_word, exact::specs::Sequence::mapped, exact::specs::Sequence::bind, exact::specs::Got::follow, exact::specs::Basic::pure, sheet::specs::Store::put_words))]
 pub fn copy_number_if(
     entry: &[u8],
     there: bool,
@@ -203,6 +203,7 @@ pub fn copy_numbers(
 }
 
 // Copies a counted list: its count, and its numbers.
+#[tactic(auto, unfolding(crate::specs::Fields::listed, crate::specs::Fields::numbers, crate::specs::Fields::several, exact::specs::Repeat::counted, format::specs::Sheet::counted_words, crate::specs::Fields::Put, crate::specs::Fields::as_word, exact::specs::Sequence::mapped, exact::specs::Sequence::bind, exact::specs::Got::follow, exact::specs::Basic::pure, sheet::specs::Store::put_words))]
 pub fn copy_list(entry: &[u8], number: Number, sheet: &mut [u8], at: Spot) -> Result<Spot, Refused>
     requires { Room «entry».now at }
     ensures { Step 1 (listed number) «entry».now at sheet.old sheet.new result }

@@ -81,6 +81,7 @@ fn copy_block(entry: &[u8], sheet: &mut [u8], at: Spot) -> Result<Spot, Refused>
 }
 
 // Copies a counted list of varints, a block at a time while so many are left.
+#[tactic(auto, unfolding(crate::specs::Fields::listed, crate::specs::Fields::numbers, crate::specs::Fields::several, exact::specs::Repeat::counted, format::specs::Sheet::counted_words, crate::specs::Fields::Put, crate::specs::Fields::as_word, exact::specs::Sequence::mapped, exact::specs::Sequence::bind, exact::specs::Got::follow, exact::specs::Basic::pure, sheet::specs::Store::put_words))]
 pub fn copy_indices(entry: &[u8], sheet: &mut [u8], at: Spot) -> Result<Spot, Refused>
     requires { Room «entry».now at }
     ensures { Step 1 (listed Varint) «entry».now at sheet.old sheet.new result }

@@ -6,7 +6,7 @@ use Rattle.reading.proofs.LawsNumbers.{varint-in}
 use Rattle.payloads.specs.declared.fields.Number.TheVariants.{Varint}
 use Rattle.payloads.specs.Fields.{number_at}
 use Rattle.payloads.proofs.LawsFields.{number-stop}
-use Rattle.payloads.proofs.LawsTypeEntries.{entry-refused, entry-got, row-least}
+use Rattle.payloads.proofs.LawsTypeEntries.{entry-got, row-least}
 use Rattle.payloads.proofs.types.decode_type_entry.Goals as goal
 
 pub returns-in_err-tag-clause-short : goal.returns-in_err-tag-clause-short
@@ -18,11 +18,6 @@ returns-in_err-tag-clause-short c =
 pub decode_fields-requires : goal.decode_fields-requires
 decode_fields-requires c =
     let m = varint-in _ _ _ _ c.in_ok-tag.ensures in (m.1, omega (arith, m, c.requires))
-
-pub returns-in_err-end-clause-row : goal.returns-in_err-end-clause-row
-returns-in_err-end-clause-row c =
-    let p = err_from_is_err_and c.from_residual-in_err-end.result c.from_residual-in_err-end.ensures.1 in
-    rw (p.1, p.2) (entry-refused _ _ _ _ _ _ _ _ c.in_ok-tag.ensures _ c.in_err-end.ensures.row)
 
 pub overflow_sub-count : goal.overflow_sub-count
 overflow_sub-count c = row-least _ _ _ _ _ c.in_ok-end.ensures.row
