@@ -1,8 +1,8 @@
 -- One step of copying fields after another, and what each step leaves. Assumes nothing.
 use mathlib.Core.Path.{◌≡◌, refl, sym, ap, ◌∙◌, subst}
-use Prim.Native.Nat.{ℕ, zero, suc, ◌+◌, ◌-◌, ◌%◌, ◌≤◌, ◌<◌}
+use Prim.Native.Nat.{ℕ, zero, suc, ◌+◌, ◌-◌, ◌≤◌, ◌<◌}
 use native.Mathlib.Nat.{add-zero}
-use native.Mathlib.Decide.{dec_le, ℕ_discrete}
+use native.Mathlib.Decide.{dec_le}
 use native.Mathlib.Omega.{arith}
 use mathlib.Core.List.{List, [], ◌∷◌, ◌++◌}
 use lib.ListN.{length, length-append}
@@ -22,9 +22,6 @@ use Rattle.reading.proofs.LawsWord.{fixed-one}
 use Rattle.reading.specs.Numbers.{digits, varint_at}
 use Rattle.reading.specs.Shown.{stop_of}
 use Rattle.reading.specs.declared.Refused.{Refused}
-use Rattle.exact.proofs.LawsChoice.{choose_yes, choose_no}
-use Rattle.format.specs.DecodeTables.{field_at}
-use Rattle.format.specs.DecodeTypes.{byte_if}
 use Rattle.sheet.specs.Store.{put_word, put_words}
 use Rattle.sheet.proofs.LawsStore.{put_words-append}
 use Rattle.payloads.specs.declared.fields.Number.{Number}
@@ -129,15 +126,6 @@ pub step-same : {n : ℕ} (p q : Parser (ℕ × List ℕ)) {l s s' : List ℕ} {
 step-same p q {s = s} {s' = s'} {t = t} {r = r} e x =
     record { put = subst (λ g. Put g t.word s s' r) e x.put; within = x.within }
 
--- A byte that is absent is 0, and one that is there is read.
-pub byte-absent : (flags : ℕ) (l : List ℕ) (i : ℕ) → ¬ (flags % 2 ≡ 1) → got 0 i ≡ byte_if flags l i
-unfolding byte_if field_at pure
-byte-absent flags l i h = ap (λ (p : Parser ℕ). p l i) (sym (choose_no (ℕ_discrete (flags % 2) 1) _ _ h))
-
-pub byte-there : (flags : ℕ) → flags % 2 ≡ 1 → number_at Byte ≡ byte_if flags
-unfolding byte_if field_at number_at
-byte-there flags h = sym (choose_yes (ℕ_discrete (flags % 2) 1) _ _ h)
-
 -- A number that was read takes a byte at least, and ends inside.
 fixed_in : (w : ℕ) (l : List ℕ) (i v j : ℕ) → 0 < w → got v j ≡ fixed w l i → (i < j) × (j ≤ length l)
 fixed_in w l i v j h e =
@@ -173,7 +161,7 @@ number-stop Byte l i c m e = fixed-stop 1 l i c m (sym (fixed-one l i) ∙ e)
 number-stop I32 l i c m e = fixed-stop 4 l i c m e
 number-stop I64 l i c m e = fixed-stop 8 l i c m e
 
--- One number was put: a 0 for an absent one, ..
+-- One number was put, ..
 module _ (p : Parser ℕ) (l s s' : List ℕ) (at : Spot) where
   one-put : (v j : ℕ) (t : Spot) → got v j ≡ p l at.pos → s' ≡ put_word s at.word v →
       t ≡ record { pos = j; word = at.word + 1; value = v } → Put (as_word p l at.pos) at.word s s' (Ok t)
@@ -182,14 +170,7 @@ module _ (p : Parser ℕ) (l s s' : List ℕ) (at : Spot) where
       let m : as_word p l at.pos ≡ got (v, v ∷ []) j = map-got (λ v. (v, v ∷ [])) p l at.pos v j (sym g) in
       subst (λ g. Put g at.word s s' (Ok t)) (sym m) (ap Ok q, h)
 
-  pub one-absent : (t : Spot) → at.pos ≤ length l → got 0 at.pos ≡ p l at.pos → s' ≡ put_word s at.word 0 →
-      t ≡ record { pos = at.pos; word = at.word + 1; value = 0 } → Step 1 (as_word p) l at s s' (Ok t)
-  one-absent t low e h q =
-      let b = ap (λ t. t.pos) q in
-      let c = ap (λ t. t.word) q in
-      record { put = one-put 0 at.pos t e h q; within = (omega arith, omega arith) }
-
--- .. or one that was read; or it was refused.
+-- .. or it was refused.
 module _ (k : Number) (l s s' : List ℕ) (at : Spot) where
   pub one-there : (v j : ℕ) (t : Spot) → got v j ≡ number_at k l at.pos → s' ≡ put_word s at.word v →
       t ≡ record { pos = j; word = at.word + 1; value = v } → Step 1 (as_word (number_at k)) l at s s' (Ok t)

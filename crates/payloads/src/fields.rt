@@ -1,5 +1,7 @@
 // The fields of type entries, copied into the words of a row one after the other. Each step begins at the spot where the
 // one before it has ended.
+#![tactic(auto, unfolding(crate::specs::Fields::field_if, format::specs::DecodeTables::field_at, exact::specs::Choice::choose, crate::specs::Fields::Put, crate::specs::Fields::as_word, exact::specs::Sequence::mapped, exact::specs::Sequence::bind, exact::specs::Got::follow, exact::specs::Basic::pure, sheet::specs::Store::put_words, format::specs::DecodeTypes::flags_at, crate::specs::Fields::listed, crate::specs::Fields::numbers, crate::specs::Fields::several, exact::specs::Repeat::counted, format::specs::Sheet::counted_words, format::specs::DecodeTypes::byte_if, exact::specs::Basic::byte, exact::specs::Basic::byte_of))]
+
 ghost use Rattle.std.specs.Prelude.{◌≡◌, ◌+◌, ◌*◌, ◌^◌, ◌≤◌, ◌<◌, length};
 ghost use Rattle.exact.specs.Fixed.{little, fixed, nums};
 ghost use Rattle.reading.specs.Numbers.{varint_at};
@@ -58,7 +60,6 @@ pub fn copy_number(entry: &[u8], sheet: &mut [u8], at: Spot) -> Result<Spot, Ref
 }
 
 // Copies a varint if it is there; else a word 0 stands for it.
-#[tactic(auto, unfolding(crate::specs::Fields::field_if, format::specs::DecodeTables::field_at, exact::specs::Choice::choose, crate::specs::Fields::Put, crate::specs::Fields::as_word, exact::specs::Sequence::mapped, exact::specs::Sequence::bind, exact::specs::Got::follow, exact::specs::Basic::pure, sheet::specs::Store::put_words))]
 pub fn copy_number_if(
     entry: &[u8],
     there: bool,
@@ -75,7 +76,6 @@ pub fn copy_number_if(
 }
 
 // Copies flags that are there from 13.4 on.
-#[tactic(auto, unfolding(crate::specs::Fields::field_if, format::specs::DecodeTables::field_at, exact::specs::Choice::choose, format::specs::DecodeTypes::flags_at))]
 pub fn copy_flags(
     entry: &[u8],
     class: VersionClass,
@@ -203,7 +203,6 @@ pub fn copy_numbers(
 }
 
 // Copies a counted list: its count, and its numbers.
-#[tactic(auto, unfolding(crate::specs::Fields::listed, crate::specs::Fields::numbers, crate::specs::Fields::several, exact::specs::Repeat::counted, format::specs::Sheet::counted_words, crate::specs::Fields::Put, crate::specs::Fields::as_word, exact::specs::Sequence::mapped, exact::specs::Sequence::bind, exact::specs::Got::follow, exact::specs::Basic::pure, sheet::specs::Store::put_words))]
 pub fn copy_list(entry: &[u8], number: Number, sheet: &mut [u8], at: Spot) -> Result<Spot, Refused>
     requires { Room «entry».now at }
     ensures { Step 1 (listed number) «entry».now at sheet.old sheet.new result }

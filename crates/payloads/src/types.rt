@@ -1,5 +1,7 @@
 // The Type section: parse_type_section and decode_type_entry of decoder.rs. Each entry becomes a row of the sheet: the
 // number of words that follow, the tag, and the fields in wire order with counts before lists.
+#![tactic(auto, using(std::proofs::lemmas::Bool::Decides::nat_tests), unfolding(crate::specs::TypeRows::Row, crate::specs::TypeRows::place_of, crate::specs::Fields::Put, crate::specs::Fields::as_word, crate::specs::Fields::listed, crate::specs::Fields::number_at, exact::specs::Sequence::mapped, exact::specs::Sequence::bind, exact::specs::Got::follow, exact::specs::Basic::pure, reading::specs::Numbers::counted_at, format::specs::DecodeTables::indices_at, format::specs::Sheet::field_words, sheet::specs::Store::put_words, format::specs::DecodeTypes::pointer_at, format::specs::DecodeTypes::tile_at, format::specs::DecodeTypes::tensor_view_at, format::specs::DecodeTypes::partition_view_at, format::specs::Items::truth, format::specs::DecodeTypes::old_partition_view_at, format::specs::DecodeTypes::gather_scatter_view_at, format::specs::DecodeTypes::strided_view_at, format::specs::DecodeTypes::function_type_at, exact::specs::Choice::choose, format::specs::DecodeTypes::fields_at, format::specs::DecodeTypes::kinds, exact::specs::Refuse::pick_at, exact::specs::Refuse::refuse, format::specs::DecodeTypes::type_entry_at, exact::specs::Upto::upto, exact::specs::Padding::here))]
+
 ghost use Rattle.std.specs.Prelude.{◌≡◌, ◌+◌, ◌*◌, ◌^◌, ◌≤◌, length, []};
 ghost use Rattle.exact.specs.Basic.{byte};
 ghost use Rattle.exact.specs.Sequence.{mapped};
@@ -21,7 +23,6 @@ use enums::{Refusal, TypeTag, VersionClass};
 use reading::{Read, Reader, Refused};
 
 // One reader for each kind: the tag, and the fields behind it.
-#[tactic(auto, unfolding(crate::specs::TypeRows::Row, crate::specs::TypeRows::place_of, crate::specs::Fields::Put, crate::specs::Fields::as_word, crate::specs::Fields::listed, crate::specs::Fields::number_at, exact::specs::Sequence::mapped, exact::specs::Sequence::bind, exact::specs::Got::follow, exact::specs::Basic::pure, reading::specs::Numbers::counted_at, format::specs::DecodeTables::indices_at, format::specs::Sheet::field_words, sheet::specs::Store::put_words, format::specs::DecodeTypes::pointer_at))]
 fn pointer(entry: &[u8], class: VersionClass, sheet: &mut [u8], at: Spot) -> Result<Spot, Refused>
     requires { Spare «entry».now at }
     ensures { Kind (pointer_at «class») «entry».now at sheet.old sheet.new result }
@@ -32,7 +33,6 @@ fn pointer(entry: &[u8], class: VersionClass, sheet: &mut [u8], at: Spot) -> Res
     copy_byte_if(entry, flags.value, sheet, element)
 }
 
-#[tactic(auto, unfolding(crate::specs::TypeRows::Row, crate::specs::TypeRows::place_of, crate::specs::Fields::Put, crate::specs::Fields::as_word, crate::specs::Fields::listed, crate::specs::Fields::number_at, exact::specs::Sequence::mapped, exact::specs::Sequence::bind, exact::specs::Got::follow, exact::specs::Basic::pure, reading::specs::Numbers::counted_at, format::specs::DecodeTables::indices_at, format::specs::Sheet::field_words, sheet::specs::Store::put_words, format::specs::DecodeTypes::tile_at))]
 fn tile(entry: &[u8], sheet: &mut [u8], at: Spot) -> Result<Spot, Refused>
     requires { Spare «entry».now at }
     ensures { Kind tile_at «entry».now at sheet.old sheet.new result }
@@ -42,7 +42,6 @@ fn tile(entry: &[u8], sheet: &mut [u8], at: Spot) -> Result<Spot, Refused>
     copy_list(entry, Number::I64, sheet, element)
 }
 
-#[tactic(auto, unfolding(crate::specs::TypeRows::Row, crate::specs::TypeRows::place_of, crate::specs::Fields::Put, crate::specs::Fields::as_word, crate::specs::Fields::listed, crate::specs::Fields::number_at, exact::specs::Sequence::mapped, exact::specs::Sequence::bind, exact::specs::Got::follow, exact::specs::Basic::pure, reading::specs::Numbers::counted_at, format::specs::DecodeTables::indices_at, format::specs::Sheet::field_words, sheet::specs::Store::put_words, format::specs::DecodeTypes::tensor_view_at))]
 fn tensor_view(
     entry: &[u8],
     class: VersionClass,
@@ -60,7 +59,6 @@ fn tensor_view(
     copy_byte_if(entry, flags.value, sheet, strides)
 }
 
-#[tactic(auto, unfolding(crate::specs::TypeRows::Row, crate::specs::TypeRows::place_of, crate::specs::Fields::Put, crate::specs::Fields::as_word, crate::specs::Fields::listed, crate::specs::Fields::number_at, exact::specs::Sequence::mapped, exact::specs::Sequence::bind, exact::specs::Got::follow, exact::specs::Basic::pure, reading::specs::Numbers::counted_at, format::specs::DecodeTables::indices_at, format::specs::Sheet::field_words, sheet::specs::Store::put_words, format::specs::DecodeTypes::partition_view_at))]
 fn partition_view(entry: &[u8], sheet: &mut [u8], at: Spot) -> Result<Spot, Refused>
     requires { Spare «entry».now at }
     ensures { Kind partition_view_at «entry».now at sheet.old sheet.new result }
@@ -74,7 +72,6 @@ fn partition_view(entry: &[u8], sheet: &mut [u8], at: Spot) -> Result<Spot, Refu
 }
 
 // The presence byte below 13.3: nonzero means 1.
-#[tactic(auto, unfolding(exact::specs::Sequence::mapped, exact::specs::Sequence::bind, exact::specs::Got::follow, exact::specs::Basic::pure, format::specs::Items::truth))]
 fn read_presence(entry: &[u8], reader: Reader) -> Read<u64>
     ensures { got_of result ≡ mapped truth byte «entry».now reader.pos }
 {
@@ -84,7 +81,6 @@ fn read_presence(entry: &[u8], reader: Reader) -> Read<u64>
 
 // Below 13.3 the presence's word stands before what is read before it: the fields behind that word are copied first, and
 // the two words before them are put after that.
-#[tactic(auto, unfolding(crate::specs::TypeRows::Row, crate::specs::TypeRows::place_of, crate::specs::Fields::Put, crate::specs::Fields::as_word, crate::specs::Fields::listed, crate::specs::Fields::number_at, exact::specs::Sequence::mapped, exact::specs::Sequence::bind, exact::specs::Got::follow, exact::specs::Basic::pure, reading::specs::Numbers::counted_at, format::specs::DecodeTables::indices_at, format::specs::Sheet::field_words, sheet::specs::Store::put_words, format::specs::DecodeTypes::old_partition_view_at))]
 fn old_partition_view(entry: &[u8], sheet: &mut [u8], at: Spot) -> Result<Spot, Refused>
     requires { Spare «entry».now at }
     ensures { Kind old_partition_view_at «entry».now at sheet.old sheet.new result }
@@ -106,7 +102,6 @@ fn old_partition_view(entry: &[u8], sheet: &mut [u8], at: Spot) -> Result<Spot, 
     copy_number_if(entry, presence == 1, sheet, behind)
 }
 
-#[tactic(auto, unfolding(crate::specs::TypeRows::Row, crate::specs::TypeRows::place_of, crate::specs::Fields::Put, crate::specs::Fields::as_word, crate::specs::Fields::listed, crate::specs::Fields::number_at, exact::specs::Sequence::mapped, exact::specs::Sequence::bind, exact::specs::Got::follow, exact::specs::Basic::pure, reading::specs::Numbers::counted_at, format::specs::DecodeTables::indices_at, format::specs::Sheet::field_words, sheet::specs::Store::put_words, format::specs::DecodeTypes::gather_scatter_view_at))]
 fn gather_scatter_view(entry: &[u8], sheet: &mut [u8], at: Spot) -> Result<Spot, Refused>
     requires { Spare «entry».now at }
     ensures { Kind gather_scatter_view_at «entry».now at sheet.old sheet.new result }
@@ -119,7 +114,6 @@ fn gather_scatter_view(entry: &[u8], sheet: &mut [u8], at: Spot) -> Result<Spot,
     copy_byte_if(entry, flags.value, sheet, sparse)
 }
 
-#[tactic(auto, unfolding(crate::specs::TypeRows::Row, crate::specs::TypeRows::place_of, crate::specs::Fields::Put, crate::specs::Fields::as_word, crate::specs::Fields::listed, crate::specs::Fields::number_at, exact::specs::Sequence::mapped, exact::specs::Sequence::bind, exact::specs::Got::follow, exact::specs::Basic::pure, reading::specs::Numbers::counted_at, format::specs::DecodeTables::indices_at, format::specs::Sheet::field_words, sheet::specs::Store::put_words, format::specs::DecodeTypes::strided_view_at))]
 fn strided_view(entry: &[u8], sheet: &mut [u8], at: Spot) -> Result<Spot, Refused>
     requires { Spare «entry».now at }
     ensures { Kind strided_view_at «entry».now at sheet.old sheet.new result }
@@ -133,7 +127,6 @@ fn strided_view(entry: &[u8], sheet: &mut [u8], at: Spot) -> Result<Spot, Refuse
     copy_byte_if(entry, flags.value, sheet, dims)
 }
 
-#[tactic(auto, unfolding(crate::specs::TypeRows::Row, crate::specs::TypeRows::place_of, crate::specs::Fields::Put, crate::specs::Fields::as_word, crate::specs::Fields::listed, crate::specs::Fields::number_at, exact::specs::Sequence::mapped, exact::specs::Sequence::bind, exact::specs::Got::follow, exact::specs::Basic::pure, reading::specs::Numbers::counted_at, format::specs::DecodeTables::indices_at, format::specs::Sheet::field_words, sheet::specs::Store::put_words, format::specs::DecodeTypes::function_type_at))]
 fn function(entry: &[u8], sheet: &mut [u8], at: Spot) -> Result<Spot, Refused>
     requires { Spare «entry».now at }
     ensures { Kind function_type_at «entry».now at sheet.old sheet.new result }
@@ -144,7 +137,6 @@ fn function(entry: &[u8], sheet: &mut [u8], at: Spot) -> Result<Spot, Refused>
 }
 
 // A partition view, by the version class.
-#[tactic(auto, unfolding(exact::specs::Choice::choose))]
 fn any_partition_view(
     entry: &[u8],
     class: VersionClass,
@@ -161,7 +153,6 @@ fn any_partition_view(
 }
 
 // The tag and what stands behind it, by kind; a tag that is not known is refused at the entry's first byte.
-#[tactic(auto, using(std::proofs::lemmas::Bool::Decides::nat_tests), unfolding(format::specs::DecodeTypes::fields_at, format::specs::DecodeTypes::kinds, exact::specs::Refuse::pick_at, exact::specs::Refuse::refuse, exact::specs::Choice::choose, exact::specs::Sequence::mapped, exact::specs::Sequence::bind, exact::specs::Got::follow, crate::specs::TypeRows::Row, crate::specs::TypeRows::place_of, exact::specs::Basic::pure, format::specs::Sheet::field_words, sheet::specs::Store::put_words))]
 fn decode_fields(
     entry: &[u8],
     class: VersionClass,
@@ -189,7 +180,6 @@ fn decode_fields(
 }
 
 // A type entry: the number of words that follow is put when they are. What is left of the entry is passed over.
-#[tactic(auto, unfolding(crate::specs::TypeRows::Row, crate::specs::TypeRows::place_of, format::specs::DecodeTypes::type_entry_at, exact::specs::Upto::upto, exact::specs::Padding::here, exact::specs::Sequence::mapped, exact::specs::Sequence::bind, exact::specs::Got::follow, exact::specs::Basic::pure))]
 fn decode_type_entry(
     entry: &[u8],
     class: VersionClass,
