@@ -1,6 +1,5 @@
 -- Rows of type entries: the presence below 13.3, and the count before a row. Assumes nothing.
-use Rattle.std.specs.Prelude.{Result, Ok, Err}
-use Rattle.reading.specs.Shown.{stop_of}
+use Rattle.std.specs.Prelude.{Result, Ok}
 use mathlib.Core.Path.{◌≡◌, refl, sym, ap, ◌∙◌, subst}
 use Prim.Native.Nat.{ℕ, ◌+◌, ◌-◌, ◌≤◌}
 use native.Mathlib.Nat.{add-zero}
@@ -19,7 +18,7 @@ use Rattle.exact.specs.Sequence.{bind, mapped}
 use Rattle.exact.specs.Padding.{here}
 use Rattle.exact.specs.Upto.{upto}
 use Rattle.exact.proofs.LawsExact.{got-value, got-next, stop-not-got}
-use Rattle.exact.proofs.LawsSequence.{follow-inv, bind-stop}
+use Rattle.exact.proofs.LawsSequence.{follow-inv}
 use Rattle.enums.specs.Types as tags
 use Rattle.enums.specs.declared.VersionClass.{VersionClass}
 use Rattle.reading.specs.Numbers.{varint_at}
@@ -37,9 +36,9 @@ use Rattle.payloads.specs.declared.fields.Spot.{Spot}
 use Rattle.payloads.specs.Fields.{number_at, as_word, Put, Step}
 use Rattle.payloads.specs.TypeRows.{place_of, Row, Kind}
 use Rattle.payloads.proofs.LawsWords.{word-before}
-use Rattle.payloads.proofs.LawsFields.{map-got, map-stop, number_in, number-stop, put-got, put-err, put-stop, within-then, within-most}
+use Rattle.payloads.proofs.LawsFields.{map-got, number_in, put-got, within-then, within-most}
 use Rattle.payloads.proofs.LawsTypes.{Via, unput, old_end, old_steps, old-says, Ran, run, stopped}
-use Rattle.payloads.proofs.LawsEntryRows.{row-stop, row_put}
+use Rattle.payloads.proofs.LawsEntryRows.{row_put}
 
 -- A row below 13.3: tag and presence are put before words that are there already.
 module _ (l s s' : List ℕ) (i w v : ℕ) (ws : List ℕ) (j : ℕ) (r : Result Spot Refused) (e : run old_steps l i ≡ got (v, ws) j) where
@@ -83,7 +82,7 @@ truth-test v r h =
       | no n ↦ let k = rw (ne_eqb v 0 n) at h in k ∙ truth-one v n
     ]
 
--- A presence that was read, ..
+-- A presence that was read.
 map-back : {A B : Type 0} (f : A → B) (p : Parser A) (l : List ℕ) (i : ℕ) (v : B) (j : ℕ) → mapped f p l i ≡ got v j → (b : A) × (p l i ≡ got b j)
 unfolding mapped bind pure
 map-back f p l i v j e =
@@ -102,34 +101,7 @@ presence-got l s t v j e =
       within = (m.1, omega (arith, m.0));
     }
 
--- .. or was refused.
-map-short : {A B : Type 0} (f : A → B) (p : Parser A) (l : List ℕ) (i c k : ℕ) → mapped f p l i ≡ stop c k → (g : Got A) → p l i ≡ g → p l i ≡ stop c k
-unfolding mapped bind follow pure
-map-short f p l i c k e (got v j) h = let y = rw h at e in absurd (stop-not-got (sym y))
-map-short f p l i c k e (stop d m) h = let y = rw h at e in h ∙ cc y
-
-pub presence-stop : (l s s' : List ℕ) (t : Spot) (x : Refused) → t.pos ≤ length l → stop_of x ≡ mapped truth byte l t.pos →
-    Step 1 (unput (mapped truth byte)) l t s s' (Err x)
-unfolding unput number_at
-presence-stop l s s' t x low e =
-    let a = map-short truth byte l t.pos _ x.at (sym e) (byte l t.pos) refl in
-    record {
-      put = put-stop _ t.word s s' x (map-stop (λ v. (v, [])) (mapped truth byte) l t.pos _ x.at (sym e));
-      within = omega (arith, number-stop Byte l t.pos _ x.at a);
-    }
-
--- Below 13.3 a step is refused, ..
-pub old-stop : {n : ℕ} {l s s' : List ℕ} (at : Spot) {x : Refused} →
-    Ran n old_steps l (record { pos = at.pos; word = at.word + 2; value = at.value }) s s' (Err x) → Kind old_partition_view_at l at s s' (Err x)
-unfolding Via
-old-stop {l = l} {s} {s'} at {x} y =
-    let e = put-err (run old_steps l at.pos) (at.word + 2) s s' x y.step.put in
-    record {
-      row = row-stop _ at.word s s' x (old-says l at.pos ∙ bind-stop (run old_steps) _ l at.pos _ x.at (sym e));
-      within = y.step.within;
-    }
-
--- .. or tag and presence are put before what was read, and the padding behind it.
+-- Below 13.3 tag and presence are put before what was read, and the padding behind it.
 pub old_kind : {n m : ℕ} {l s s₁ s₂ s' : List ℕ} (at : Spot) {b : Spot} {r : Result Spot Refused} → n + m ≤ 5 →
     Ran n old_steps l (record { pos = at.pos; word = at.word + 2; value = at.value }) s s₁ (Ok b) →
     s₂ ≡ put_word (put_word s₁ (at.word + 1) b.value) at.word tags.tag_partition_view →
