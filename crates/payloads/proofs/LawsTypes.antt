@@ -23,18 +23,7 @@ use Rattle.format.specs.Tables.{TypeRow, partition_view}
 use Rattle.format.specs.Sheet.{field_words}
 use Rattle.exact.proofs.LawsChoice.{choose_yes, choose_no}
 use Rattle.format.specs.DecodeTables.{field_at, indices_at}
-use Rattle.format.specs.DecodeTypes.{
-  flags_at,
-  byte_if,
-  pointer_at,
-  tile_at,
-  tensor_view_at,
-  partition_view_at,
-  old_partition_view_at,
-  gather_scatter_view_at,
-  strided_view_at,
-  function_type_at,
-}
+use Rattle.format.specs.DecodeTypes.{flags_at, byte_if, tensor_view_at, partition_view_at, old_partition_view_at, gather_scatter_view_at, strided_view_at, function_type_at}
 use Rattle.enums.specs.Types as tags
 use Rattle.sheet.specs.Store.{put_word, put_words}
 use Rattle.payloads.specs.declared.fields.Number.{Number}
@@ -42,7 +31,7 @@ use Rattle.payloads.specs.declared.fields.Number.TheVariants.{Varint, I32, I64}
 use Rattle.payloads.specs.declared.fields.Spot.{Spot}
 use Rattle.payloads.specs.Fields.{number_at, field_if, as_word, listed, spot_of, Put, Step}
 use Rattle.payloads.specs.TypeRows.{place_of, Row, Kind}
-use Rattle.payloads.proofs.LawsFields.{map-got, map-stop, then, step-then, step-stop, within-then, within-most}
+use Rattle.payloads.proofs.LawsFields.{map-got, map-stop, then, step-then, within-then, within-most}
 
 -- The words of p's rows are what `end` makes of the value of q, and of ws with the words of q behind.
 unfoldable pub Via : (ℕ × List ℕ → Parser (List ℕ)) → List ℕ → Parser TypeRow → Parser (ℕ × List ℕ) → Type 0
@@ -156,9 +145,6 @@ module _ {l s : List ℕ} {n : ℕ} {t : Spot} {p : Parser (ℕ × List ℕ)} wh
       Ran m (q u.value) l u s₁ s₂ r → Ran (n + m) (first p q) l t s s₂ r
   ran_more {q} x y = record { step = step-then p (λ v. run (q v)) x y.step }
 
-  pub ran-stop : {q : ℕ → Steps} {s₁ s₂ : List ℕ} {x : Refused} → Step n p l t s s₁ (Err x) → Ran n (first p q) l t s s₂ (Err x)
-  ran-stop {q} x = record { step = step-stop p (λ v. run (q v)) x }
-
 module _ (P : Parser TypeRow) (q : Parser (ℕ × List ℕ)) (t : ℕ) (says : Says (t ∷ []) P q) (l s s' : List ℕ) (i w : ℕ) (r : Result Spot Refused) where
   row_any : (g : Got (ℕ × List ℕ)) → q l i ≡ g → Put g (w + 1) (put_word s w t) s' r → Row (mapped field_words P l i) w s s' r
   unfolding Put Row place_of put_words Via mapped pure
@@ -212,25 +198,6 @@ old-says =
     (λ presence l j. old-last shape view m presence l j (field_at (ℕ_discrete presence 1) varint_at l j) refl))))
 
 -- The fields of each kind behind its tag.
-abbrev pub pointer_steps : VersionClass → Steps
-pointer_steps c = first (as_word (flags_at c)) (λ flags. first (as_word varint_at) (λ _. last (as_word (byte_if flags))))
-
-pub pointer-says : (c : VersionClass) → Says (tags.tag_pointer ∷ []) (pointer_at c) (run (pointer_steps c))
-unfolding pointer_at counted_at indices_at number_at field_words
-pointer-says c =
-    says-one _ _ _ _ _
-    (λ flags. says-one _ _ _ _ _
-    (λ element. ends-one _ _ _ (λ a. refl)))
-
-abbrev pub tile_steps : Steps
-tile_steps = first (as_word varint_at) (λ _. last (listed I64))
-
-pub tile-says : Says (tags.tag_tile ∷ []) tile_at (run tile_steps)
-unfolding tile_at counted_at indices_at number_at field_words
-tile-says =
-    says-one _ _ _ _ _
-    (λ element. ends-list _ I64 _ (λ dims. simp append_assoc))
-
 abbrev pub tensor_view_steps : VersionClass → Steps
 tensor_view_steps c =
     first (as_word (flags_at c)) (λ flags.

@@ -1,40 +1,7 @@
 -- `tensor_view` puts the tag and copies the fields of its kind. Assumes nothing.
 use native.Mathlib.Omega.{arith}
-use Rattle.std.proofs.lemmas.Result.{err_from_is_err_and}
-use Rattle.payloads.proofs.LawsTypes.{kind_of, ran_more, ran-last, ran-stop, tensor-view-says, tensor_view_steps}
+use Rattle.payloads.proofs.LawsTypes.{kind_of, ran_more, ran-last, tensor-view-says, tensor_view_steps}
 use Rattle.payloads.proofs.types.tensor_view.Goals as goal
-
-pub returns-in_err-flags : goal.returns-in_err-flags
-returns-in_err-flags c =
-    let t = c.put_value-tag.ensures in
-    let p = err_from_is_err_and c.from_residual.result c.from_residual.ensures.1 in
-    rw (p.1, p.2)
-    (kind_of {x = tensor_view_steps c.args.class} (tensor-view-says _) c.args.at (omega arith) t.value t.sheet_after
-    (ran-stop c.in_err-flags.ensures))
-
-pub returns-in_err-element : goal.returns-in_err-element
-returns-in_err-element c =
-    let t = c.put_value-tag.ensures in
-    let p = err_from_is_err_and c.from_residual-in_err-element.result c.from_residual-in_err-element.ensures.1 in
-    rw (p.1, p.2)
-    (kind_of {x = tensor_view_steps c.args.class} (tensor-view-says _) c.args.at (omega arith) t.value t.sheet_after
-    (ran_more c.in_ok-flags.ensures (ran-stop c.in_err-element.ensures)))
-
-pub returns-in_err-shape : goal.returns-in_err-shape
-returns-in_err-shape c =
-    let t = c.put_value-tag.ensures in
-    let p = err_from_is_err_and c.from_residual-in_err-shape.result c.from_residual-in_err-shape.ensures.1 in
-    rw (p.1, p.2)
-    (kind_of {x = tensor_view_steps c.args.class} (tensor-view-says _) c.args.at (omega arith) t.value t.sheet_after
-    (ran_more c.in_ok-flags.ensures (ran_more c.in_ok-element.ensures (ran-stop c.in_err-shape.ensures))))
-
-pub returns-in_err-strides : goal.returns-in_err-strides
-returns-in_err-strides c =
-    let t = c.put_value-tag.ensures in
-    let p = err_from_is_err_and c.from_residual-in_err-strides.result c.from_residual-in_err-strides.ensures.1 in
-    rw (p.1, p.2)
-    (kind_of {x = tensor_view_steps c.args.class} (tensor-view-says _) c.args.at (omega arith) t.value t.sheet_after
-    (ran_more c.in_ok-flags.ensures (ran_more c.in_ok-element.ensures (ran_more c.in_ok-shape.ensures (ran-stop c.in_err-strides.ensures)))))
 
 pub returns : goal.returns
 returns c =
