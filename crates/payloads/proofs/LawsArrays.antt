@@ -4,7 +4,7 @@ use Rattle.std.specs.Prelude.{Result, Ok, Err}
 use Rattle.reading.specs.declared.Refused.{Refused}
 use mathlib.Core.Path.{◌≡◌, refl, sym, ap, ◌∙◌, subst}
 use Prim.Native.Nat.{ℕ, zero, suc, ◌+◌, ◌-◌, ◌*◌, ◌/◌, ◌^◌, ◌≤◌, ◌<◌}
-use native.Mathlib.Nat.{sub-zero, zero-mul, pow-zero, pow-succ', pow-le-pow_right, mul-le-mul_left, mul-le-mul_right, lt-div-mul-add}
+use native.Mathlib.Nat.{sub-zero, zero-mul, pow-zero, pow-succ', pow-le-pow_right, mul-le-mul_left, lt-div-mul-add}
 use native.Mathlib.Numerals.{add-one}
 use native.Mathlib.Omega.{arith}
 use mathlib.Core.List.{List}
@@ -83,13 +83,6 @@ module _ (l : List ℕ) (i v : ℕ) (t : Tail l i v) where
   -- .. and all of them are the number.
   pub tail_all : i ≤ 0 → v ≡ little l
   tail_all h = let e : i ≡ 0 = omega arith in t.value ∙ ap (λ k. little (drop k l)) e
-
--- One of n numbers of k bytes lies among their bytes.
-pub within-run : (i n k : ℕ) → i < n → i * k + k ≤ n * k
-within-run i n k h =
-    let m : suc i * k ≤ n * k = mul-le-mul_right k h in
-    let e : suc i * k ≡ i * k + k = omega arith in
-    omega (arith, m, e)
 
 -- Behind the first a of e numbers stand the others.
 pub nums-from : (a e k : ℕ) (l : List ℕ) → a ≤ e → drop a (nums e k l) ≡ nums (e - a) k (drop (a * k) l)

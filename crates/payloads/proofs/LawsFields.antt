@@ -1,10 +1,9 @@
 -- One step of copying fields after another, and what each step leaves. Assumes nothing.
 use mathlib.Core.Path.{◌≡◌, refl, sym, ap, ◌∙◌, subst}
-use Prim.Native.Nat.{ℕ, zero, suc, ◌+◌, ◌-◌, ◌%◌, ◌≤◌, ◌<◌}
+use Prim.Native.Nat.{ℕ, zero, suc, ◌+◌, ◌-◌, ◌≤◌, ◌<◌}
 use native.Mathlib.Nat.{add-zero}
-use native.Mathlib.Decide.{dec_le, ℕ_discrete}
+use native.Mathlib.Decide.{dec_le}
 use native.Mathlib.Omega.{arith}
-use mathlib.Core.Bool.{Bool, false}
 use mathlib.Core.List.{List, [], ◌∷◌, ◌++◌}
 use lib.ListN.{length, length-append}
 use Rattle.std.specs.Prelude.{Result, Ok, Err}
@@ -12,7 +11,6 @@ use Rattle.exact.specs.Got.{Got, got, stop, ended, follow}
 use Rattle.exact.specs.Exact.{Parser}
 use Rattle.exact.specs.Basic.{pure}
 use Rattle.exact.specs.Sequence.{bind, mapped}
-use Rattle.exact.specs.Choice.{choose}
 use Rattle.exact.specs.Repeat.{times, counted}
 use Rattle.exact.specs.Fixed.{fixed}
 use Rattle.exact.specs.Padding.{broke, blamed}
@@ -24,15 +22,12 @@ use Rattle.reading.proofs.LawsWord.{fixed-one}
 use Rattle.reading.specs.Numbers.{digits, varint_at}
 use Rattle.reading.specs.Shown.{stop_of}
 use Rattle.reading.specs.declared.Refused.{Refused}
-use Rattle.exact.proofs.LawsChoice.{choose_yes, choose_no}
-use Rattle.format.specs.DecodeTables.{field_at}
-use Rattle.format.specs.DecodeTypes.{byte_if}
 use Rattle.sheet.specs.Store.{put_word, put_words}
 use Rattle.sheet.proofs.LawsStore.{put_words-append}
 use Rattle.payloads.specs.declared.fields.Number.{Number}
 use Rattle.payloads.specs.declared.fields.Number.TheVariants.{Varint, Byte, I32, I64}
 use Rattle.payloads.specs.declared.fields.Spot.{Spot}
-use Rattle.payloads.specs.Fields.{number_at, field_if, as_word, listed, several, numbers, Put, Within, Step}
+use Rattle.payloads.specs.Fields.{number_at, as_word, listed, several, numbers, Put, Within, Step}
 
 -- What a function of a parser's value answers.
 module _ {A B : Type 0} (f : A → B) (p : Parser A) (l : List ℕ) (i : ℕ) where
@@ -120,24 +115,16 @@ module _ (p : Parser (ℕ × List ℕ)) (q : ℕ → Parser (ℕ × List ℕ)) {
         within = y.within;
       }
 
+-- A step from where the step before it has ended: a refusal is handed out.
+abbrev pub Next : ℕ → Parser (ℕ × List ℕ) → List ℕ → Result Spot Refused → List ℕ → List ℕ → Result Spot Refused → Type 0
+Next n p l (Ok t) s s' r = Step n p l t s s' r
+Next n p l (Err x) s s' r = r ≡ Err x
+
 -- A step by a parser that answers the same.
 pub step-same : {n : ℕ} (p q : Parser (ℕ × List ℕ)) {l s s' : List ℕ} {t : Spot} {r : Result Spot Refused} → p l t.pos ≡ q l t.pos →
     Step n p l t s s' r → Step n q l t s s' r
 step-same p q {s = s} {s' = s'} {t = t} {r = r} e x =
     record { put = subst (λ g. Put g t.word s s' r) e x.put; within = x.within }
-
--- A field that is absent is 0, and one that is there is read.
-pub field-absent : (p : Parser ℕ) {there : Bool} (l : List ℕ) (i : ℕ) → there ≡ false → got 0 i ≡ field_if there p l i
-unfolding field_if field_at choose pure
-field-absent p l i e = rw e
-
-pub byte-absent : (flags : ℕ) (l : List ℕ) (i : ℕ) → ¬ (flags % 2 ≡ 1) → got 0 i ≡ byte_if flags l i
-unfolding byte_if field_at pure
-byte-absent flags l i h = ap (λ (p : Parser ℕ). p l i) (sym (choose_no (ℕ_discrete (flags % 2) 1) _ _ h))
-
-pub byte-there : (flags : ℕ) → flags % 2 ≡ 1 → number_at Byte ≡ byte_if flags
-unfolding byte_if field_at number_at
-byte-there flags h = sym (choose_yes (ℕ_discrete (flags % 2) 1) _ _ h)
 
 -- A number that was read takes a byte at least, and ends inside.
 fixed_in : (w : ℕ) (l : List ℕ) (i v j : ℕ) → 0 < w → got v j ≡ fixed w l i → (i < j) × (j ≤ length l)
@@ -174,7 +161,7 @@ number-stop Byte l i c m e = fixed-stop 1 l i c m (sym (fixed-one l i) ∙ e)
 number-stop I32 l i c m e = fixed-stop 4 l i c m e
 number-stop I64 l i c m e = fixed-stop 8 l i c m e
 
--- One number was put: a 0 for an absent one, ..
+-- One number was put, ..
 module _ (p : Parser ℕ) (l s s' : List ℕ) (at : Spot) where
   one-put : (v j : ℕ) (t : Spot) → got v j ≡ p l at.pos → s' ≡ put_word s at.word v →
       t ≡ record { pos = j; word = at.word + 1; value = v } → Put (as_word p l at.pos) at.word s s' (Ok t)
@@ -183,14 +170,7 @@ module _ (p : Parser ℕ) (l s s' : List ℕ) (at : Spot) where
       let m : as_word p l at.pos ≡ got (v, v ∷ []) j = map-got (λ v. (v, v ∷ [])) p l at.pos v j (sym g) in
       subst (λ g. Put g at.word s s' (Ok t)) (sym m) (ap Ok q, h)
 
-  pub one-absent : (t : Spot) → at.pos ≤ length l → got 0 at.pos ≡ p l at.pos → s' ≡ put_word s at.word 0 →
-      t ≡ record { pos = at.pos; word = at.word + 1; value = 0 } → Step 1 (as_word p) l at s s' (Ok t)
-  one-absent t low e h q =
-      let b = ap (λ t. t.pos) q in
-      let c = ap (λ t. t.word) q in
-      record { put = one-put 0 at.pos t e h q; within = (omega arith, omega arith) }
-
--- .. or one that was read; or it was refused.
+-- .. or it was refused.
 module _ (k : Number) (l s s' : List ℕ) (at : Spot) where
   pub one-there : (v j : ℕ) (t : Spot) → got v j ≡ number_at k l at.pos → s' ≡ put_word s at.word v →
       t ≡ record { pos = j; word = at.word + 1; value = v } → Step 1 (as_word (number_at k)) l at s s' (Ok t)
@@ -286,16 +266,9 @@ module _ (k : Number) (l : List ℕ) (i : ℕ) where
   pub list_same : then (as_word varint_at) (λ n. numbers n n k) l i ≡ listed k l i
   list_same = list_count (varint_at l i) refl
 
--- A count and then as many numbers are a list ..
+-- A count and then as many numbers are a list.
 pub list-then : (k : Number) {n m : ℕ} {l s s₁ s' : List ℕ} {t u : Spot} {r : Result Spot Refused} → Step n (as_word varint_at) l t s s₁ (Ok u) →
     Step m (numbers u.value u.value k) l u s₁ s' r → Step (n + m) (listed k) l t s s' r
 list-then k {l = l} {t = t} x y =
     step-same (then (as_word varint_at) (λ n. numbers n n k)) (listed k) (list_same k l t.pos)
     (step-then (as_word varint_at) (λ n. numbers n n k) x y)
-
--- .. or the count was refused.
-pub list-stop : (k : Number) {n : ℕ} {l s s' : List ℕ} {t : Spot} {x : Refused} → Step n (as_word varint_at) l t s s' (Err x) →
-    Step n (listed k) l t s s' (Err x)
-list-stop k {l = l} {t = t} y =
-    step-same (then (as_word varint_at) (λ n. numbers n n k)) (listed k) (list_same k l t.pos)
-    (step-stop (as_word varint_at) (λ n. numbers n n k) y)

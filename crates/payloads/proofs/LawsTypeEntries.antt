@@ -1,15 +1,14 @@
--- Rows of type entries: the presence below 13.3, the choice by tag, and the count before a row. Assumes nothing.
-use Rattle.std.specs.Prelude.{Result, Ok, Err}
-use Rattle.reading.specs.Shown.{stop_of}
+-- Rows of type entries: the presence below 13.3, and the count before a row. Assumes nothing.
+use Rattle.std.specs.Prelude.{Result, Ok}
 use mathlib.Core.Path.{◌≡◌, refl, sym, ap, ◌∙◌, subst}
-use Prim.Native.Nat.{ℕ, ◌+◌, ◌-◌, ◌≤◌, ◌<◌}
+use Prim.Native.Nat.{ℕ, ◌+◌, ◌-◌, ◌≤◌}
 use native.Mathlib.Nat.{add-zero}
 use borrow.Author.Tests.{eq-eqb, ne_eqb}
 use lib.Dec.{eqb}
 use mir.Val.{bool_byte}
 use native.Mathlib.Decide.{ℕ_discrete}
 use native.Mathlib.Omega.{arith}
-use mathlib.Core.Bool.{Bool, true, false, not, Bool-discrete, false≢true}
+use mathlib.Core.Bool.{not}
 use mathlib.Core.List.{List, [], ◌∷◌, ◌++◌}
 use lib.ListN.{length, length-append}
 use Rattle.exact.specs.Got.{Got, got, stop, follow}
@@ -17,48 +16,29 @@ use Rattle.exact.specs.Exact.{Parser}
 use Rattle.exact.specs.Basic.{byte, pure}
 use Rattle.exact.specs.Sequence.{bind, mapped}
 use Rattle.exact.specs.Padding.{here}
-use Rattle.exact.specs.Refuse.{pick_at, refuse}
 use Rattle.exact.specs.Upto.{upto}
 use Rattle.exact.proofs.LawsExact.{got-value, got-next, stop-not-got}
-use Rattle.exact.proofs.LawsSequence.{follow-inv, bind-stop}
-use Rattle.enums.specs.declared.Refusal.TheVariants.{TypeTag}
-use Rattle.exact.proofs.LawsChoice.{choose_yes, choose_no}
-use Rattle.exact.specs.Kinds.{Case}
-use Rattle.enums.specs.Refusals as refusals
+use Rattle.exact.proofs.LawsSequence.{follow-inv}
 use Rattle.enums.specs.Types as tags
 use Rattle.enums.specs.declared.VersionClass.{VersionClass}
-use Rattle.enums.specs.Version.{since13_3}
 use Rattle.reading.specs.Numbers.{varint_at}
 use Rattle.reading.specs.declared.Refused.{Refused}
-use Rattle.format.specs.Tables.{TypeRow, plain}
+use Rattle.format.specs.Tables.{TypeRow}
 use Rattle.format.specs.Items.{truth}
-use Rattle.format.specs.Types.{plain_tags, among}
 use Rattle.format.specs.Sheet.{field_words, type_words}
 use Rattle.format.specs.DecodeTables.{field_at}
-use Rattle.format.specs.DecodeTypes.{
-  pointer_at,
-  tile_at,
-  tensor_view_at,
-  partition_view_at,
-  old_partition_view_at,
-  gather_scatter_view_at,
-  strided_view_at,
-  function_type_at,
-  kinds,
-  fields_at,
-  type_entry_at,
-}
+use Rattle.format.specs.DecodeTypes.{old_partition_view_at, fields_at, type_entry_at}
 use Rattle.format.proofs.LawsItems.{truth-zero, truth-one}
 use Rattle.sheet.specs.Store.{put_word, put_words}
 use Rattle.sheet.proofs.LawsStore.{put_words-append}
 use Rattle.payloads.specs.declared.fields.Number.TheVariants.{Byte}
 use Rattle.payloads.specs.declared.fields.Spot.{Spot}
 use Rattle.payloads.specs.Fields.{number_at, as_word, Put, Step}
-use Rattle.payloads.specs.TypeRows.{partition_at, place_of, Row, Kind}
+use Rattle.payloads.specs.TypeRows.{place_of, Row, Kind}
 use Rattle.payloads.proofs.LawsWords.{word-before}
-use Rattle.payloads.proofs.LawsFields.{map-got, map-stop, number_in, number-stop, put-got, put-err, put-stop, within-then, within-most}
+use Rattle.payloads.proofs.LawsFields.{map-got, number_in, put-got, within-then, within-most}
 use Rattle.payloads.proofs.LawsTypes.{Via, unput, old_end, old_steps, old-says, Ran, run, stopped}
-use Rattle.payloads.proofs.LawsEntryRows.{row-stop, row_put}
+use Rattle.payloads.proofs.LawsEntryRows.{row_put}
 
 -- A row below 13.3: tag and presence are put before words that are there already.
 module _ (l s s' : List ℕ) (i w v : ℕ) (ws : List ℕ) (j : ℕ) (r : Result Spot Refused) (e : run old_steps l i ≡ got (v, ws) j) where
@@ -102,7 +82,7 @@ truth-test v r h =
       | no n ↦ let k = rw (ne_eqb v 0 n) at h in k ∙ truth-one v n
     ]
 
--- A presence that was read, ..
+-- A presence that was read.
 map-back : {A B : Type 0} (f : A → B) (p : Parser A) (l : List ℕ) (i : ℕ) (v : B) (j : ℕ) → mapped f p l i ≡ got v j → (b : A) × (p l i ≡ got b j)
 unfolding mapped bind pure
 map-back f p l i v j e =
@@ -121,34 +101,7 @@ presence-got l s t v j e =
       within = (m.1, omega (arith, m.0));
     }
 
--- .. or was refused.
-map-short : {A B : Type 0} (f : A → B) (p : Parser A) (l : List ℕ) (i c k : ℕ) → mapped f p l i ≡ stop c k → (g : Got A) → p l i ≡ g → p l i ≡ stop c k
-unfolding mapped bind follow pure
-map-short f p l i c k e (got v j) h = let y = rw h at e in absurd (stop-not-got (sym y))
-map-short f p l i c k e (stop d m) h = let y = rw h at e in h ∙ cc y
-
-pub presence-stop : (l s s' : List ℕ) (t : Spot) (x : Refused) → t.pos ≤ length l → stop_of x ≡ mapped truth byte l t.pos →
-    Step 1 (unput (mapped truth byte)) l t s s' (Err x)
-unfolding unput number_at
-presence-stop l s s' t x low e =
-    let a = map-short truth byte l t.pos _ x.at (sym e) (byte l t.pos) refl in
-    record {
-      put = put-stop _ t.word s s' x (map-stop (λ v. (v, [])) (mapped truth byte) l t.pos _ x.at (sym e));
-      within = omega (arith, number-stop Byte l t.pos _ x.at a);
-    }
-
--- Below 13.3 a step is refused, ..
-pub old-stop : {n : ℕ} {l s s' : List ℕ} (at : Spot) {x : Refused} →
-    Ran n old_steps l (record { pos = at.pos; word = at.word + 2; value = at.value }) s s' (Err x) → Kind old_partition_view_at l at s s' (Err x)
-unfolding Via
-old-stop {l = l} {s} {s'} at {x} y =
-    let e = put-err (run old_steps l at.pos) (at.word + 2) s s' x y.step.put in
-    record {
-      row = row-stop _ at.word s s' x (old-says l at.pos ∙ bind-stop (run old_steps) _ l at.pos _ x.at (sym e));
-      within = y.step.within;
-    }
-
--- .. or tag and presence are put before what was read, and the padding behind it.
+-- Below 13.3 tag and presence are put before what was read, and the padding behind it.
 pub old_kind : {n m : ℕ} {l s s₁ s₂ s' : List ℕ} (at : Spot) {b : Spot} {r : Result Spot Refused} → n + m ≤ 5 →
     Ran n old_steps l (record { pos = at.pos; word = at.word + 2; value = at.value }) s s₁ (Ok b) →
     s₂ ≡ put_word (put_word s₁ (at.word + 1) b.value) at.word tags.tag_partition_view →
@@ -166,190 +119,9 @@ old_kind {n} {m} {l} {s} {s₁} {s₂} {s'} at {b} {r} few y p z =
           (within-then l (2 + n) m at.pos at.word b r (omega (arith, y.step.within.1)) z.within);
     }
 
--- A kind by a parser that is the same.
-pub kind-as : {P Q : Parser TypeRow} {l s s' : List ℕ} {t : Spot} {r : Result Spot Refused} → P ≡ Q → Kind P l t s s' r → Kind Q l t s s' r
-kind-as {l = l} {s} {s'} {t} {r} e x = subst (λ P. Kind P l t s s' r) e x
-
--- Partition views by class.
-pub partition-since : (c : VersionClass) {b : Bool} → b ≡ since13_3 c → b ≡ true → partition_view_at ≡ partition_at c
-partition-since c e h = sym (choose_yes (Bool-discrete (since13_3 c) true) _ _ (sym e ∙ h))
-
-pub partition-below : (c : VersionClass) {b : Bool} → b ≡ since13_3 c → b ≡ false → old_partition_view_at ≡ partition_at c
-partition-below c e h = sym (choose_no (Bool-discrete (since13_3 c) true) _ _ (λ k. false≢true (sym h ∙ e ∙ k)))
-
--- Behind the first two.
-abbrev tail2 : {A : Type 1} → List A → List A
-tail2 [] = []
-tail2 (x ∷ []) = []
-tail2 (x ∷ y ∷ xs) = xs
-
--- The kinds by tag, and the tags without fields.
-pick-here : (c k : ℕ) (x : Case TypeRow) (xs : List (Case TypeRow)) (t : ℕ) → t ≡ x.tag → pick_at c k (x ∷ xs) t ≡ x.run
-unfolding pick_at
-pick-here c k x xs t e = choose_yes (ℕ_discrete t x.tag) _ _ e
-
-pick-past : (c k : ℕ) (x : Case TypeRow) (xs : List (Case TypeRow)) (t : ℕ) → ¬ (t ≡ x.tag) → pick_at c k (x ∷ xs) t ≡ pick_at c k xs t
-unfolding pick_at
-pick-past c k x xs t e = choose_no (ℕ_discrete t x.tag) _ _ e
-
-pick-none : (c k t : ℕ) → pick_at {A = TypeRow} c k [] t ≡ refuse c k
-unfolding pick_at
-pick-none c k t = refl
-
-false-true : ¬ (◌≡◌ {A = Bool} false true)
-false-true e = let n : ◌≡◌ {A = ℕ} 0 1 = cc in let z : ⊥ = omega arith in z
-
-module _ (c : VersionClass) (t : ℕ) where
-  fields-kind : among t plain_tags ≡ false → fields_at c 0 t ≡ pick_at refusals.type_tag 0 (kinds c) t
-  unfolding fields_at
-  fields-kind e = choose_no (Bool-discrete (among t plain_tags) true) _ _ (λ h. false-true (sym e ∙ h))
-
-  fields-plain : among t plain_tags ≡ true → fields_at c 0 t ≡ pure (plain t)
-  unfolding fields_at
-  fields-plain e = choose_yes (Bool-discrete (among t plain_tags) true) _ _ e
-
-  pub kind-pointer : t ≡ 12 → pointer_at c ≡ fields_at c 0 t
-  kind-pointer e = sym (fields-kind (ap (λ t. among t plain_tags) e) ∙ pick-here _ _ _ _ t e)
-
-  pub kind-tile : t ≡ 13 → tile_at ≡ fields_at c 0 t
-  kind-tile e =
-      sym (fields-kind (ap (λ t. among t plain_tags) e) ∙ pick-past _ _ _ _ t (λ f. omega arith) ∙ pick-here _ _ _ _ t e)
-
-  past2 : ¬ (t ≡ 12) → ¬ (t ≡ 13) → among t plain_tags ≡ false → fields_at c 0 t ≡ pick_at refusals.type_tag 0 (tail2 (kinds c)) t
-  past2 a b e = fields-kind e ∙ pick-past _ _ _ _ t a ∙ pick-past _ _ _ _ t b
-
-  pub kind-tensor : t ≡ 14 → tensor_view_at c ≡ fields_at c 0 t
-  kind-tensor e = sym (past2 (λ f. omega arith) (λ f. omega arith) (ap (λ t. among t plain_tags) e) ∙ pick-here _ _ _ _ t e)
-
-  pub kind-partition : t ≡ 15 → partition_at c ≡ fields_at c 0 t
-  kind-partition e =
-      sym (past2 (λ f. omega arith) (λ f. omega arith) (ap (λ t. among t plain_tags) e) ∙ pick-past _ _ _ _ t (λ f. omega arith) ∙
-      pick-here _ _ _ _ t e)
-
-  past4 : ¬ (t ≡ 12) → ¬ (t ≡ 13) → ¬ (t ≡ 14) → ¬ (t ≡ 15) → among t plain_tags ≡ false →
-      fields_at c 0 t ≡ pick_at refusals.type_tag 0 (tail2 (tail2 (kinds c))) t
-  past4 a b d f e = past2 a b e ∙ pick-past _ _ _ _ t d ∙ pick-past _ _ _ _ t f
-
-  pub kind-function : t ≡ 16 → function_type_at ≡ fields_at c 0 t
-  kind-function e =
-      sym (past4 (λ f. omega arith) (λ f. omega arith) (λ f. omega arith) (λ f. omega arith) (ap (λ t. among t plain_tags) e) ∙
-      pick-here _ _ _ _ t e)
-
-  pub kind-gather : t ≡ 20 → gather_scatter_view_at ≡ fields_at c 0 t
-  kind-gather e =
-      sym (past4 (λ f. omega arith) (λ f. omega arith) (λ f. omega arith) (λ f. omega arith) (ap (λ t. among t plain_tags) e) ∙
-      pick-past _ _ _ _ t (λ f. omega arith) ∙ pick-here _ _ _ _ t e)
-
-  pub kind-strided : t ≡ 21 → strided_view_at ≡ fields_at c 0 t
-  kind-strided e =
-      sym (past4 (λ f. omega arith) (λ f. omega arith) (λ f. omega arith) (λ f. omega arith) (ap (λ t. among t plain_tags) e) ∙
-      pick-past _ _ _ _ t (λ f. omega arith) ∙ pick-past _ _ _ _ t (λ f. omega arith) ∙ pick-here _ _ _ _ t e)
-
-  unknown-fields : 22 < t → among t plain_tags ≡ false → fields_at c 0 t ≡ refuse refusals.type_tag 0
-  unknown-fields h e =
-      let a : ¬ (t ≡ 16) = λ f. omega arith in
-      let b : ¬ (t ≡ 20) = λ f. omega arith in
-      let d : ¬ (t ≡ 21) = λ f. omega arith in
-      past4 (λ f. omega arith) (λ f. omega arith) (λ f. omega arith) (λ f. omega arith) e ∙ pick-past _ _ _ _ t a ∙
-      pick-past _ _ _ _ t b ∙ pick-past _ _ _ _ t d ∙ pick-none _ _ t
-
--- None of these.
-abbrev NoneOf : ℕ → List ℕ → Type 0
-NoneOf t [] = Unit
-NoneOf t (u ∷ us) = ¬ (t ≡ u) × NoneOf t us
-
-among_none : (t : ℕ) (us : List ℕ) → NoneOf t us → among t us ≡ false
-among_none t [] h = refl
-among_none t (u ∷ us) (a, b) = rw (ne_eqb t u a) (among_none t us b)
-
-pub unknown-plain : (t : ℕ) → 22 < t → ¬ (t ≡ 130) → among t plain_tags ≡ false
-unknown-plain t h n =
-    among_none t plain_tags (
-      λ e. omega arith,
-      (
-        λ e. omega arith,
-        (
-          λ e. omega arith,
-          (
-            λ e. omega arith,
-            (
-              λ e. omega arith,
-              (
-                λ e. omega arith,
-                (
-                  λ e. omega arith,
-                  (
-                    λ e. omega arith,
-                    (
-                      λ e. omega arith,
-                      (
-                        λ e. omega arith,
-                        (
-                          λ e. omega arith,
-                          (
-                            λ e. omega arith,
-                            (
-                              λ e. omega arith,
-                              (
-                                λ e. omega arith,
-                                (
-                                  λ e. omega arith,
-                                  (λ e. omega arith, (n, tt)),
-                                ),
-                              ),
-                            ),
-                          ),
-                        ),
-                      ),
-                    ),
-                  ),
-                ),
-              ),
-            ),
-          ),
-        ),
-      ),
-    )
-
-module _ (c : VersionClass) (t : ℕ) (l s s' : List ℕ) (at : Spot) where
-  -- A tag without fields is a row of itself ..
-  pub plain_kind : (u : Spot) → at.pos ≤ length l → among t plain_tags ≡ true → u ≡ record { pos = at.pos; word = at.word + 1; value = t } →
-      s' ≡ put_word s at.word t → Kind (fields_at c 0 t) l at s s' (Ok u)
-  unfolding mapped bind follow pure field_words Row place_of put_words
-  plain_kind u low h e p =
-      let a = ap (λ u. u.pos) e in
-      let b = ap (λ u. u.word) e in
-      record {
-        row = rw (fields-plain c t h) (ap (λ u. got u.word u.pos) e, p);
-        within = (omega arith, omega arith);
-      }
-
-  -- .. and one that is not known is refused.
-  pub unknown-kind : 22 < t → ¬ (t ≡ 130) → Kind (fields_at c 0 t) l at s s' (Err record { refusal = TypeTag; at = 0 })
-  unfolding mapped bind follow refuse
-  unknown-kind h n =
-      record {
-        row = row-stop _ at.word s s' _ (rw (unknown-fields c t h (unknown-plain t h n)) refl);
-        within = omega arith;
-      }
-
 -- The count of a row is put before its words.
 module _ (c : VersionClass) (l : List ℕ) (w : ℕ) (s s₁ s' : List ℕ) where
-  pub entry-stop : (x : Refused) → stop_of x ≡ varint_at l 0 → Row (mapped type_words (type_entry_at c) l 0) w s s' (Err x)
-  unfolding type_entry_at upto here mapped bind follow
-  entry-stop x e = row-stop _ w s s' x (rw (← e) refl)
-
   module _ (t j : ℕ) (e : got t j ≡ varint_at l 0) where
-    refused-any : (x : Refused) (g : Got TypeRow) → fields_at c 0 t l j ≡ g → Row (mapped field_words (fields_at c 0 t) l j) (w + 1) s s₁ (Err x) →
-        Row (mapped type_words (type_entry_at c) l 0) w s s' (Err x)
-    unfolding type_entry_at upto here mapped bind follow pure Row place_of
-    refused-any x (got v k) f h = let y = rw f at h in absurd (stop-not-got y.0)
-    refused-any x (stop d k) f h = let y = rw f at h in rw (← e, f) y
-
-    pub entry-refused : (x : Refused) → Row (mapped field_words (fields_at c 0 t) l j) (w + 1) s s₁ (Err x) →
-        Row (mapped type_words (type_entry_at c) l 0) w s s' (Err x)
-    entry-refused x h = refused-any x (fields_at c 0 t l j) refl h
-
     entry-any : (d : Spot) (u : ℕ) (g : Got TypeRow) → fields_at c 0 t l j ≡ g → s' ≡ put_word s₁ w (d.word - (w + 1)) →
         Row (mapped field_words (fields_at c 0 t) l j) (w + 1) s s₁ (Ok d) →
         Row (mapped type_words (type_entry_at c) l 0) w s s' (Ok record { pos = length l; word = d.word; value = u })

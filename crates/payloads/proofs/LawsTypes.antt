@@ -1,8 +1,8 @@
--- The words of a type's fields as the words of steps one after the other. Assumes nothing.
+-- Steps one after the other, and the words of a partition view below 13.3 as those that its steps put. Assumes nothing.
 use Rattle.std.specs.Prelude.{Result, Ok, Err}
 use Rattle.reading.specs.declared.Refused.{Refused}
-use mathlib.Core.Path.{◌≡◌, refl, sym, ap, ◌∙◌, subst}
-use Prim.Native.Nat.{ℕ, ◌+◌, ◌%◌, ◌≤◌}
+use mathlib.Core.Path.{◌≡◌, refl, sym, ap, ◌∙◌}
+use Prim.Native.Nat.{ℕ, ◌+◌}
 use native.Mathlib.Decide.{ℕ_discrete}
 use native.Mathlib.Omega.{arith}
 use mathlib.Core.Bool.{Bool, true, false, Bool-discrete}
@@ -16,42 +16,24 @@ use Rattle.exact.specs.Basic.{byte, pure}
 use Rattle.exact.specs.Sequence.{bind, mapped}
 use Rattle.exact.specs.Repeat.{counted}
 use Rattle.exact.proofs.LawsExact.{stop-not-got}
-use Rattle.enums.specs.declared.VersionClass.{VersionClass}
 use Rattle.reading.specs.Numbers.{varint_at, counted_at}
 use Rattle.format.specs.Items.{truth}
 use Rattle.format.specs.Tables.{TypeRow, partition_view}
 use Rattle.format.specs.Sheet.{field_words}
 use Rattle.exact.proofs.LawsChoice.{choose_yes, choose_no}
-use Rattle.format.specs.DecodeTables.{field_at, indices_at}
-use Rattle.format.specs.DecodeTypes.{
-  flags_at,
-  byte_if,
-  pointer_at,
-  tile_at,
-  tensor_view_at,
-  partition_view_at,
-  old_partition_view_at,
-  gather_scatter_view_at,
-  strided_view_at,
-  function_type_at,
-}
+use Rattle.format.specs.DecodeTables.{field_at}
+use Rattle.format.specs.DecodeTypes.{old_partition_view_at}
 use Rattle.enums.specs.Types as tags
-use Rattle.enums.specs.Version.{since13_4}
-use Rattle.sheet.specs.Store.{put_word, put_words}
 use Rattle.payloads.specs.declared.fields.Number.{Number}
-use Rattle.payloads.specs.declared.fields.Number.TheVariants.{Varint, I32, I64}
+use Rattle.payloads.specs.declared.fields.Number.TheVariants.{I32}
 use Rattle.payloads.specs.declared.fields.Spot.{Spot}
-use Rattle.payloads.specs.Fields.{number_at, field_if, as_word, listed, spot_of, Put, Step}
-use Rattle.payloads.specs.TypeRows.{place_of, Row, Kind}
-use Rattle.payloads.proofs.LawsFields.{map-got, map-stop, then, step-then, step-stop, within-then, within-most}
+use Rattle.payloads.specs.Fields.{number_at, field_if, as_word, listed, spot_of, Step}
+use Rattle.payloads.specs.TypeRows.{place_of}
+use Rattle.payloads.proofs.LawsFields.{then, step-then}
 
 -- The words of p's rows are what `end` makes of the value of q, and of ws with the words of q behind.
 unfoldable pub Via : (ℕ × List ℕ → Parser (List ℕ)) → List ℕ → Parser TypeRow → Parser (ℕ × List ℕ) → Type 0
 Via end ws p q = (l : List ℕ) (i : ℕ) → mapped field_words p l i ≡ bind q (λ a. end (a.0, ws ++ a.1)) l i
-
--- The words of p's rows are ws and then the words of q.
-abbrev pub Says : List ℕ → Parser TypeRow → Parser (ℕ × List ℕ) → Type 0
-Says = Via (λ a. pure a.1)
 
 module _ {A : Type 0} (end : ℕ × List ℕ → Parser (List ℕ)) (g : A → ℕ × List ℕ) (p : Parser A) (ws : List ℕ) where
   module _ (f : A → Parser TypeRow) (q : ℕ → Parser (ℕ × List ℕ)) (l : List ℕ) (i : ℕ) where
@@ -103,18 +85,6 @@ module _ (ws : List ℕ) where
     unfolding listed
     says-list k f q h = via-step end (λ vs. (length vs, length vs ∷ vs)) (counted varint_at (number_at k)) ws f q h
 
-  -- .. and each as the last.
-  pub ends-one : (p : Parser ℕ) (f : ℕ → TypeRow) → ((v : ℕ) → field_words (f v) ≡ ws ++ (v ∷ [])) → Says ws (mapped f p) (as_word p)
-  unfolding as_word mapped bind follow pure
-  ends-one p f h = via-last (λ a. pure a.1) (λ v. (v, v ∷ [])) p ws (λ v. pure (f v)) (λ v l j. ap (λ x. got x j) (h v))
-
-  pub ends-list : (k : Number) (f : List ℕ → TypeRow) → ((vs : List ℕ) → field_words (f vs) ≡ ws ++ (length vs ∷ vs)) →
-      Says ws (mapped f (counted varint_at (number_at k))) (listed k)
-  unfolding listed mapped bind follow pure
-  ends-list k f h =
-      via-last (λ a. pure a.1) (λ vs. (length vs, length vs ∷ vs)) (counted varint_at (number_at k)) ws (λ vs. pure (f vs))
-      (λ vs l j. ap (λ x. got x j) (h vs))
-
 -- A refusal is a row's.
 pub stopped : (r : Result Spot Refused) (c k : ℕ) → spot_of r ≡ stop c k → place_of r ≡ stop c k
 unfolding place_of
@@ -136,15 +106,6 @@ pub field-if : (a b : ℕ) (p : Parser ℕ) → field_if (eqb a b) p ≡ field_a
 unfolding field_if
 field-if a b p = bit_test a b p (eqb a b) refl
 
-pub byte-if : (flags : ℕ) → field_if (eqb (flags % 2) 1) byte ≡ byte_if flags
-unfolding field_if byte_if
-byte-if flags = bit_test (flags % 2) 1 byte (eqb (flags % 2) 1) refl
-
--- Flags by the version class, as it is tested.
-pub flags-if : (c : VersionClass) (t : Bool) → t ≡ since13_4 c → field_if t varint_at ≡ flags_at c
-unfolding field_if flags_at
-flags-if c t e = ap (λ t. field_at (Bool-discrete t true) varint_at) e
-
 -- Steps one after the other, each of which may depend on the value of the one before.
 pub data Steps : Type 0 where
   last : Parser (ℕ × List ℕ) → Steps
@@ -165,33 +126,6 @@ module _ {l s : List ℕ} {n : ℕ} {t : Spot} {p : Parser (ℕ × List ℕ)} wh
   pub ran_more : {q : ℕ → Steps} {m : ℕ} {s₁ s₂ : List ℕ} {u : Spot} {r : Result Spot Refused} → Step n p l t s s₁ (Ok u) →
       Ran m (q u.value) l u s₁ s₂ r → Ran (n + m) (first p q) l t s s₂ r
   ran_more {q} x y = record { step = step-then p (λ v. run (q v)) x y.step }
-
-  pub ran-stop : {q : ℕ → Steps} {s₁ s₂ : List ℕ} {x : Refused} → Step n p l t s s₁ (Err x) → Ran n (first p q) l t s s₂ (Err x)
-  ran-stop {q} x = record { step = step-stop p (λ v. run (q v)) x }
-
-module _ (P : Parser TypeRow) (q : Parser (ℕ × List ℕ)) (t : ℕ) (says : Says (t ∷ []) P q) (l s s' : List ℕ) (i w : ℕ) (r : Result Spot Refused) where
-  row_any : (g : Got (ℕ × List ℕ)) → q l i ≡ g → Put g (w + 1) (put_word s w t) s' r → Row (mapped field_words P l i) w s s' r
-  unfolding Put Row place_of put_words Via mapped pure
-  row_any (got b k) e (x, y) =
-      let m : mapped field_words P l i ≡ got (t ∷ b.1) k = says l i ∙ map-got (λ b. (t ∷ []) ++ b.1) q l i b k e in
-      let n : w + 1 + length b.1 ≡ w + length (t ∷ b.1) = omega arith in
-      subst (λ g. Row g w s s' r) (sym m) (ap place_of x ∙ ap (λ a. got a k) n, y)
-  row_any (stop c k) e x =
-      let m : mapped field_words P l i ≡ stop c k = says l i ∙ map-stop (λ b. (t ∷ []) ++ b.1) q l i c k e in
-      subst (λ g. Row g w s s' r) (sym m) (stopped r c k x)
-
--- A kind's row is its tag and the words of its fields.
-pub kind_of : {P : Parser TypeRow} {x : Steps} {t : ℕ} → Says (t ∷ []) P (run x) → {n : ℕ} {l s s₀ s' : List ℕ} (at : Spot) {u : Spot} {r : Result Spot Refused} → n ≤ 6 →
-    u ≡ record { pos = at.pos; word = at.word + 1; value = t } → s₀ ≡ put_word s at.word t → Ran n x l u s₀ s' r →
-    Kind P l at s s' r
-kind_of {P} {x} {t} says {n} {l} {s} {s₀} {s'} at {u} {r} h e p y =
-    let a = ap (λ u. u.pos) e in
-    let b = ap (λ u. u.word) e in
-    let z = rw (a, b, p) at y.step.put in
-    record {
-      row = row_any P (run x) t says l s s' at.pos at.word r (run x l at.pos) refl z;
-      within = within-most l at.pos at.word (1 + n) 7 r (omega arith) (within-then l 1 n at.pos at.word u r (omega arith) y.step.within);
-    }
 
 -- The rows of partition views below 13.3: the presence stands before what is read before it.
 unfoldable pub old_end : ℕ × List ℕ → Parser (List ℕ)
@@ -220,89 +154,3 @@ old-says =
     (λ view. says-list _ _ I32 _ _
     (λ m. via-last old_end (λ v. (v, [])) (mapped truth byte) _ _
     (λ presence l j. old-last shape view m presence l j (field_at (ℕ_discrete presence 1) varint_at l j) refl))))
-
--- The fields of each kind behind its tag.
-abbrev pub pointer_steps : VersionClass → Steps
-pointer_steps c = first (as_word (flags_at c)) (λ flags. first (as_word varint_at) (λ _. last (as_word (byte_if flags))))
-
-pub pointer-says : (c : VersionClass) → Says (tags.tag_pointer ∷ []) (pointer_at c) (run (pointer_steps c))
-unfolding pointer_at counted_at indices_at number_at field_words
-pointer-says c =
-    says-one _ _ _ _ _
-    (λ flags. says-one _ _ _ _ _
-    (λ element. ends-one _ _ _ (λ a. refl)))
-
-abbrev pub tile_steps : Steps
-tile_steps = first (as_word varint_at) (λ _. last (listed I64))
-
-pub tile-says : Says (tags.tag_tile ∷ []) tile_at (run tile_steps)
-unfolding tile_at counted_at indices_at number_at field_words
-tile-says =
-    says-one _ _ _ _ _
-    (λ element. ends-list _ I64 _ (λ dims. simp append_assoc))
-
-abbrev pub tensor_view_steps : VersionClass → Steps
-tensor_view_steps c =
-    first (as_word (flags_at c)) (λ flags.
-    first (as_word varint_at) (λ _. first (listed I64) (λ _. first (listed I64) (λ _. last (as_word (byte_if flags))))))
-
-pub tensor-view-says : (c : VersionClass) → Says (tags.tag_tensor_view ∷ []) (tensor_view_at c) (run (tensor_view_steps c))
-unfolding tensor_view_at counted_at indices_at number_at field_words
-tensor-view-says c =
-    says-one _ _ _ _ _
-    (λ flags. says-one _ _ _ _ _
-    (λ element. says-list _ _ I64 _ _
-    (λ shape. says-list _ _ I64 _ _
-    (λ strides. ends-one _ _ _ (λ a. simp append_assoc)))))
-
-abbrev pub partition_view_steps : Steps
-partition_view_steps =
-    first (as_word varint_at) (λ flags.
-    first (listed I32) (λ _. first (as_word varint_at) (λ _. first (listed I32) (λ _. last (as_word (byte_if flags))))))
-
-pub partition-view-says : Says (tags.tag_partition_view ∷ []) partition_view_at (run partition_view_steps)
-unfolding partition_view_at counted_at indices_at number_at field_words
-partition-view-says =
-    says-one _ _ _ _ _
-    (λ flags. says-list _ _ I32 _ _
-    (λ shape. says-one _ _ _ _ _
-    (λ view. says-list _ _ I32 _ _
-    (λ dims. ends-one _ _ _ (λ a. simp append_assoc)))))
-
-abbrev pub gather_scatter_view_steps : Steps
-gather_scatter_view_steps =
-    first (as_word varint_at) (λ flags.
-    first (listed I32) (λ _. first (as_word varint_at) (λ _. first (as_word varint_at) (λ _. last (as_word (byte_if flags))))))
-
-pub gather-scatter-view-says : Says (tags.tag_gather_scatter_view ∷ []) gather_scatter_view_at (run gather_scatter_view_steps)
-unfolding gather_scatter_view_at counted_at indices_at number_at field_words
-gather-scatter-view-says =
-    says-one _ _ _ _ _
-    (λ flags. says-list _ _ I32 _ _
-    (λ shape. says-one _ _ _ _ _
-    (λ view. says-one _ _ _ _ _
-    (λ sparse. ends-one _ _ _ (λ a. simp append_assoc)))))
-
-abbrev pub strided_view_steps : Steps
-strided_view_steps =
-    first (as_word varint_at) (λ flags.
-    first (listed I32) (λ _. first (listed I32) (λ _. first (as_word varint_at) (λ _. first (listed I32) (λ _. last (as_word (byte_if flags)))))))
-
-pub strided-view-says : Says (tags.tag_strided_view ∷ []) strided_view_at (run strided_view_steps)
-unfolding strided_view_at counted_at indices_at number_at field_words
-strided-view-says =
-    says-one _ _ _ _ _
-    (λ flags. says-list _ _ I32 _ _
-    (λ shape. says-list _ _ I32 _ _
-    (λ strides. says-one _ _ _ _ _
-    (λ view. says-list _ _ I32 _ _
-    (λ dims. ends-one _ _ _ (λ a. simp append_assoc))))))
-
-abbrev pub function_steps : Steps
-function_steps = first (listed Varint) (λ _. last (listed Varint))
-
-pub function-says : Says (tags.tag_func ∷ []) function_type_at (run function_steps)
-unfolding function_type_at counted_at indices_at number_at field_words
-function-says =
-    says-list _ _ Varint _ _
-    (λ inputs. ends-list _ Varint _ (λ results. simp append_assoc))

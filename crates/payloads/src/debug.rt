@@ -11,13 +11,13 @@ ghost use Rattle.format.specs.DecodeDebug.{attribute_at, debug_at};
 ghost use Rattle.sheet.specs.Store.{put_words};
 ghost use Rattle.entries.specs.Starts.{Lies, numbers_in};
 ghost use Rattle.payloads.specs.Shorts.{shorts};
-ghost use Rattle.payloads.specs.Fill.{Fits};
 ghost use Rattle.payloads.specs.TypeRows.{Row, words_of, entries_by};
 ghost use Rattle.payloads.specs.DebugRows.{attribute_row, bytes_of, list_rows, DebugFills};
 
 use crate::answers::{Filled, raised};
 use crate::entry::Entry;
 use crate::fields::{Number, Spot, copy_numbers, put_numbers, put_value};
+use crate::part::Part;
 use crate::rows::put_row;
 use entries::starts::{Starts, Width, first_entry, first_list, next_entry, next_list, parse_array};
 use enums::{DebugTag, IdPosition, Refusal};
@@ -285,21 +285,21 @@ fn fill_lists(
 }
 
 // All arrays come first. The attributes are judged before the lists.
-pub fn parse_debug_section(payload: &[u8], sheet: &mut [u8], at: Filled) -> DebugRead
-    requires { Fits at payload.now }
-    ensures { DebugFills at (debug_at payload.now 0) sheet.old sheet.new result }
+pub fn parse_debug_section(part: Part, sheet: &mut [u8]) -> DebugRead
+    ensures { DebugFills part.entry.at (debug_at part.entry.payload.now 0) sheet.old sheet.new result }
 {
+    let payload = part.payload;
     let lists = parse_array(payload, Reader { pos: 0 }, Width::Four)?;
     let ids = parse_array(payload, Reader { pos: lists.data }, Width::Eight)?;
     let attributes = parse_array(payload, Reader { pos: ids.data }, Width::Four)?;
-    let next = fill_attributes(payload, attributes, sheet, at.words)?;
+    let next = fill_attributes(payload, attributes, sheet, part.at.words)?;
     let last = fill_lists(payload, lists, ids, sheet, next)?;
     Ok(DebugFilled {
         attributes: attributes.count,
         lists: lists.count,
         filled: Filled {
             words: last.word,
-            bytes: at.bytes,
+            bytes: part.at.bytes,
         },
     })
 }

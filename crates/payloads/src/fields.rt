@@ -1,16 +1,17 @@
 // The fields of type entries, copied into the words of a row one after the other. Each step begins at the spot where the
 // one before it has ended.
+#![tactic(auto, unfolding(crate::specs::Fields::field_if, format::specs::DecodeTables::field_at, exact::specs::Choice::choose, crate::specs::Fields::Put, crate::specs::Fields::as_word, exact::specs::Sequence::mapped, exact::specs::Sequence::bind, exact::specs::Got::follow, exact::specs::Basic::pure, sheet::specs::Store::put_words, format::specs::DecodeTypes::flags_at, crate::specs::Fields::listed, crate::specs::Fields::numbers, crate::specs::Fields::several, exact::specs::Repeat::counted, format::specs::Sheet::counted_words, format::specs::DecodeTypes::byte_if, exact::specs::Basic::byte, exact::specs::Basic::byte_of))]
+
 ghost use Rattle.std.specs.Prelude.{◌≡◌, ◌+◌, ◌*◌, ◌^◌, ◌≤◌, ◌<◌, length};
 ghost use Rattle.exact.specs.Fixed.{little, fixed, nums};
 ghost use Rattle.reading.specs.Numbers.{varint_at};
-ghost use Rattle.reading.specs.Shown.{got_of};
 ghost use Rattle.format.specs.DecodeTypes.{flags_at, byte_if};
 ghost use Rattle.sheet.specs.Store.{put_word, put_words};
 ghost use Rattle.payloads.specs.declared.fields.Number.TheVariants as kinds;
-ghost use Rattle.payloads.specs.Fields.{number_at, Room, Near, Step, as_word, listed, several, numbers, field_if};
+ghost use Rattle.payloads.specs.Fields.{Room, Near, Step, as_word, listed, several, numbers, field_if};
 
 use enums::{Refusal, VersionClass};
-use reading::{Read, Reader, Refused};
+use reading::{Reader, Refused};
 
 // How far an entry is read and its row is filled: the number that was copied last (of a list its count), the next byte,
 // and the next word. In an answer a refusal shares the memory of the first field, which is why that is the one that is
@@ -59,7 +60,6 @@ pub fn copy_number(entry: &[u8], sheet: &mut [u8], at: Spot) -> Result<Spot, Ref
 }
 
 // Copies a varint if it is there; else a word 0 stands for it.
-#[tactic(auto, unfolding(crate::specs::Fields::field_if, format::specs::DecodeTables::field_at, exact::specs::Choice::choose))]
 pub fn copy_number_if(
     entry: &[u8],
     there: bool,
@@ -76,7 +76,6 @@ pub fn copy_number_if(
 }
 
 // Copies flags that are there from 13.4 on.
-#[tactic(auto, unfolding(crate::specs::Fields::field_if, format::specs::DecodeTables::field_at, exact::specs::Choice::choose, format::specs::DecodeTypes::flags_at))]
 pub fn copy_flags(
     entry: &[u8],
     class: VersionClass,
@@ -125,7 +124,8 @@ fn copy_each(entry: &[u8], sheet: &mut [u8], count: u64, at: Spot) -> Result<Spo
     })
 }
 
-// The number that a run of at most eight bytes is, the lowest first. Of a known length it compiles to one load.
+// The number that a run of at most eight bytes is, the lowest first. Of four bytes it compiles to one load, where the
+// compiler knows that there are four.
 fn number_of(run: &[u8]) -> u64
     requires { length run.now ≤ 8 }
     ensures { result ≡ little run.now }

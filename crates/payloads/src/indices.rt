@@ -1,5 +1,7 @@
 // The lists of indices of a function's type. Most indices have one byte each, or two: where the next sixteen bytes hold
 // such numbers alone, they are copied together.
+#![tactic(auto, unfolding(crate::specs::Fields::listed, crate::specs::Fields::numbers, crate::specs::Fields::several, exact::specs::Repeat::counted, format::specs::Sheet::counted_words, crate::specs::Fields::Put, crate::specs::Fields::as_word, exact::specs::Sequence::mapped, exact::specs::Sequence::bind, exact::specs::Got::follow, exact::specs::Basic::pure, sheet::specs::Store::put_words))]
+
 ghost use Rattle.std.specs.Prelude.{◌≡◌, ◌+◌, ◌*◌, ◌^◌, ◌≤◌, ◌<◌, length, Ok};
 ghost use Rattle.exact.specs.Got.{got};
 ghost use Rattle.reading.specs.Numbers.{varint_at};

@@ -7,6 +7,7 @@ mod debug;
 mod entry;
 mod fields;
 mod indices;
+mod part;
 mod pass;
 mod rows;
 mod source;

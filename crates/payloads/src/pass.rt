@@ -31,6 +31,7 @@ ghost use Rattle.payloads.specs.Pass.{
 use crate::Need;
 use crate::answers::{Filled, TableRead, raised, staged};
 use crate::debug::{DebugFilled, DebugRead, parse_debug_section};
+use crate::part::Part;
 use crate::rows::{parse_func_section, parse_global_section, put_row};
 use crate::source::Source;
 use crate::tables::{parse_constant_section, parse_string_section};
@@ -95,21 +96,19 @@ fn put_table(sheet: &mut [u8], contents: usize, start: usize, rows: usize)
 #[tactic(auto, unfolding(crate::specs::Pass::table_in))]
 fn parse_table(
     table: Table,
-    payload: &[u8],
+    part: Part,
     class: VersionClass,
     sheet: &mut [u8],
     pool: &mut [u8],
-    at: Filled,
 ) -> TableRead
-    requires { Fits at payload.now }
-    ensures { Fills at (table_in table «class» payload.now) sheet.old sheet.new pool.old pool.new result }
+    ensures { Fills part.entry.at (table_in table «class» part.entry.payload.now) sheet.old sheet.new pool.old pool.new result }
 {
     match table {
-        Table::Strings => parse_string_section(payload, sheet, pool, at),
-        Table::Types => parse_type_section(payload, class, sheet, at),
-        Table::Constants => parse_constant_section(payload, sheet, pool, at),
-        Table::Globals => parse_global_section(payload, class, sheet, at),
-        Table::Functions => parse_func_section(payload, sheet, pool, at),
+        Table::Strings => parse_string_section(part, sheet, pool),
+        Table::Types => parse_type_section(part.payload, class, sheet, part.at),
+        Table::Constants => parse_constant_section(part, sheet, pool),
+        Table::Globals => parse_global_section(part, class, sheet),
+        Table::Functions => parse_func_section(part, sheet, pool),
     }
 }
 
@@ -126,10 +125,16 @@ fn read_table(
 {
     match source.payload(table.section()) {
         None => Ok((0, at)),
-        Some(payload) => raised(
-            parse_table(table, payload.bytes, source.class(), sheet, pool, at),
-            payload.start,
-        ),
+        Some(found) => {
+            let part = Part {
+                payload: found.bytes,
+                at,
+            };
+            raised(
+                parse_table(table, part, source.class(), sheet, pool),
+                found.start,
+            )
+        }
     }
 }
 
@@ -172,7 +177,13 @@ fn read_debug(source: Source, sheet: &mut [u8], at: Filled) -> DebugRead
             lists: 0,
             filled: at,
         }),
-        Some(payload) => raised(parse_debug_section(payload.bytes, sheet, at), payload.start),
+        Some(found) => {
+            let part = Part {
+                payload: found.bytes,
+                at,
+            };
+            raised(parse_debug_section(part, sheet), found.start)
+        }
     }
 }
 

@@ -6,10 +6,11 @@ ghost use Rattle.format.specs.Sheet.{global_words, function_words};
 ghost use Rattle.format.specs.DecodeRows.{global_at, globals_at, function_at, functions_at};
 ghost use Rattle.sheet.specs.Store.{put_words};
 ghost use Rattle.entries.specs.Rows.{global_of};
-ghost use Rattle.payloads.specs.Fill.{Fills, Fits};
+ghost use Rattle.payloads.specs.Fill.{Fills};
 ghost use Rattle.payloads.specs.Rows.{global_rows, FillsSheet, row_of, located_rows, function_rows};
 
 use crate::answers::{Filled, TableRead};
+use crate::part::Part;
 use entries::rows::{FuncHead, GlobalRow, read_func, read_global};
 use enums::VersionClass;
 use reading::Reader;
@@ -42,41 +43,34 @@ fn put_global(sheet: &mut [u8], word: usize, row: GlobalRow)
 
 // Row by row: six words of the sheet for each.
 fn fill_globals(
-    payload: &[u8],
+    part: Part,
     class: VersionClass,
     first: Reader,
     count: u64,
     sheet: &mut [u8],
-    at: Filled,
 ) -> TableRead
-    requires fits { Fits at payload.now }
-    requires pos_in_bounds { first.pos ≤ length payload.now }
-    ensures { FillsSheet at (global_rows (times count (global_at «class») payload.now first.pos)) sheet.old sheet.new result }
+    requires { first.pos ≤ length part.payload.now }
+    ensures { FillsSheet part.entry.at (global_rows (times count (global_at «class») part.entry.payload.now first.pos)) sheet.old sheet.new result }
 {
+    let payload = part.payload;
     let mut reader = first;
-    let mut words = at.words;
+    let mut words = part.at.words;
     for _ in 0..count {
         let (row, next) = read_global(payload, class, reader)?;
         put_global(sheet, words, row);
         words += 6;
         reader = next;
     }
-    let bytes = at.bytes;
+    let bytes = part.at.bytes;
     Ok((count as usize, Filled { words, bytes }))
 }
 
 // A global has no run of bytes: the pool is not lent, and stays as it is.
-pub fn parse_global_section(
-    payload: &[u8],
-    class: VersionClass,
-    sheet: &mut [u8],
-    at: Filled,
-) -> TableRead
-    requires { Fits at payload.now }
-    ensures { FillsSheet at (global_rows (globals_at «class» 0 payload.now 0)) sheet.old sheet.new result }
+pub fn parse_global_section(part: Part, class: VersionClass, sheet: &mut [u8]) -> TableRead
+    ensures { FillsSheet part.entry.at (global_rows (globals_at «class» 0 part.entry.payload.now 0)) sheet.old sheet.new result }
 {
-    let (count, first) = (Reader { pos: 0 }).read_varint(payload)?;
-    fill_globals(payload, class, first, count, sheet, at)
+    let (count, first) = (Reader { pos: 0 }).read_varint(part.payload)?;
+    fill_globals(part, class, first, count, sheet)
 }
 
 #[tactic(auto, unfolding(format::specs::Sheet::function_words))]
@@ -95,21 +89,14 @@ fn put_func(sheet: &mut [u8], word: usize, head: FuncHead, body_len: usize)
 }
 
 // Row by row: five words of the sheet, and the body in the pool.
-fn fill_funcs(
-    payload: &[u8],
-    first: Reader,
-    count: u64,
-    sheet: &mut [u8],
-    pool: &mut [u8],
-    at: Filled,
-) -> TableRead
-    requires fits { Fits at payload.now }
-    requires pos_in_bounds { first.pos ≤ length payload.now }
-    ensures { Fills at (located_rows (times count (function_at 0) payload.now first.pos)) sheet.old sheet.new pool.old pool.new result }
+fn fill_funcs(part: Part, first: Reader, count: u64, sheet: &mut [u8], pool: &mut [u8]) -> TableRead
+    requires { first.pos ≤ length part.payload.now }
+    ensures { Fills part.entry.at (located_rows (times count (function_at 0) part.entry.payload.now first.pos)) sheet.old sheet.new pool.old pool.new result }
 {
+    let payload = part.payload;
     let mut reader = first;
-    let mut words = at.words;
-    let mut bytes = at.bytes;
+    let mut words = part.at.words;
+    let mut bytes = part.at.bytes;
     for _ in 0..count {
         let (row, next) = read_func(payload, reader)?;
         let body = &payload[row.body..next.pos];
@@ -122,15 +109,9 @@ fn fill_funcs(
     Ok((count as usize, Filled { words, bytes }))
 }
 
-pub fn parse_func_section(
-    payload: &[u8],
-    sheet: &mut [u8],
-    pool: &mut [u8],
-    at: Filled,
-) -> TableRead
-    requires { Fits at payload.now }
-    ensures { Fills at (function_rows (functions_at 0 payload.now 0)) sheet.old sheet.new pool.old pool.new result }
+pub fn parse_func_section(part: Part, sheet: &mut [u8], pool: &mut [u8]) -> TableRead
+    ensures { Fills part.entry.at (function_rows (functions_at 0 part.entry.payload.now 0)) sheet.old sheet.new pool.old pool.new result }
 {
-    let (count, first) = (Reader { pos: 0 }).read_varint(payload)?;
-    fill_funcs(payload, first, count, sheet, pool, at)
+    let (count, first) = (Reader { pos: 0 }).read_varint(part.payload)?;
+    fill_funcs(part, first, count, sheet, pool)
 }

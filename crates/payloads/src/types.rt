@@ -1,5 +1,7 @@
 // The Type section: parse_type_section and decode_type_entry of decoder.rs. Each entry becomes a row of the sheet: the
 // number of words that follow, the tag, and the fields in wire order with counts before lists.
+#![tactic(auto, using(std::proofs::lemmas::Bool::Decides::nat_tests, crate::proofs::LawsPast::words_behind), unfolding(crate::specs::TypeRows::Row, crate::specs::TypeRows::place_of, crate::specs::Fields::Put, crate::specs::Fields::as_word, crate::specs::Fields::listed, crate::specs::Fields::number_at, exact::specs::Sequence::mapped, exact::specs::Sequence::bind, exact::specs::Got::follow, exact::specs::Basic::pure, reading::specs::Numbers::counted_at, format::specs::DecodeTables::indices_at, format::specs::Sheet::field_words, sheet::specs::Store::put_words, format::specs::DecodeTypes::pointer_at, format::specs::DecodeTypes::tile_at, format::specs::DecodeTypes::tensor_view_at, format::specs::DecodeTypes::partition_view_at, format::specs::Items::truth, format::specs::DecodeTypes::old_partition_view_at, format::specs::DecodeTypes::gather_scatter_view_at, format::specs::DecodeTypes::strided_view_at, format::specs::DecodeTypes::function_type_at, exact::specs::Choice::choose, format::specs::DecodeTypes::fields_at, format::specs::DecodeTypes::kinds, exact::specs::Refuse::pick_at, exact::specs::Refuse::refuse, format::specs::DecodeTypes::type_entry_at, exact::specs::Upto::upto, exact::specs::Padding::here, exact::specs::Basic::byte, exact::specs::Basic::byte_of, crate::specs::Fields::field_if, format::specs::DecodeTables::field_at))]
+
 ghost use Rattle.std.specs.Prelude.{◌≡◌, ◌+◌, ◌*◌, ◌^◌, ◌≤◌, length, []};
 ghost use Rattle.exact.specs.Basic.{byte};
 ghost use Rattle.exact.specs.Sequence.{mapped};
@@ -70,7 +72,6 @@ fn partition_view(entry: &[u8], sheet: &mut [u8], at: Spot) -> Result<Spot, Refu
 }
 
 // The presence byte below 13.3: nonzero means 1.
-#[tactic(auto, unfolding(exact::specs::Sequence::mapped, exact::specs::Sequence::bind, exact::specs::Got::follow, exact::specs::Basic::pure, format::specs::Items::truth))]
 fn read_presence(entry: &[u8], reader: Reader) -> Read<u64>
     ensures { got_of result ≡ mapped truth byte «entry».now reader.pos }
 {

@@ -22,7 +22,7 @@ returns-in_err-attributes c =
     rw (p.1, p.2) (debug-stop _ _ _ _ _ (offsets-refused _ _ (sym c.in_ok-lists.ensures) _ (sym c.in_ok-ids.ensures) _ _ (sym c.in_err-attributes.ensures)))
 
 pub fill_attributes-requires : goal.fill_attributes-requires
-fill_attributes-requires c = record { attributes_lie = array_lies _ _ _ _ _ c.in_ok-attributes.ensures; payload_bound = c.requires.words }
+fill_attributes-requires c = record { attributes_lie = array_lies _ _ _ _ _ c.in_ok-attributes.ensures; payload_bound = c.args.part.fits.words }
 
 pub returns-in_err-next : goal.returns-in_err-next
 returns-in_err-next c =
@@ -37,7 +37,7 @@ fill_lists-requires c =
     record {
       lists_lie = array_lies _ _ _ _ _ c.in_ok-lists.ensures;
       ids_lie = array_lies _ _ _ _ _ c.in_ok-ids.ensures;
-      payload_bound = omega (arith, n, few, c.requires.words);
+      payload_bound = omega (arith, n, few, c.args.part.fits.words);
     }
 
 pub returns-in_err-last : goal.returns-in_err-last

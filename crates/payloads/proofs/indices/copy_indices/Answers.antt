@@ -3,14 +3,9 @@
 use native.Mathlib.Omega.{arith}
 use Rattle.std.proofs.lemmas.Result.{err_from_is_err_and}
 use Rattle.payloads.specs.declared.fields.Number.TheVariants.{Varint}
-use Rattle.payloads.proofs.LawsFields.{list-then, list-stop}
+use Rattle.payloads.proofs.LawsFields.{list-then}
 use Rattle.payloads.proofs.LawsIndices.{some-value, some-got, some-stop, some-all}
 use Rattle.payloads.proofs.indices.copy_indices.Goals as goal
-
-pub returns-in_err-count : goal.returns-in_err-count
-returns-in_err-count c =
-    let p = err_from_is_err_and c.from_residual.result c.from_residual.ensures.1 in
-    rw (p.1, p.2) (list-stop Varint c.in_err-count.ensures)
 
 pub returns-in_err-next : goal.returns-in_err-next
 returns-in_err-next c =

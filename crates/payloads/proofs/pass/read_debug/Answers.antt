@@ -15,15 +15,15 @@ use Rattle.payloads.proofs.pass.read_debug.Goals as goal
 pub returns-in-None : goal.returns-in-None
 returns-in-None c = absent-debug _ _ _ _ c.in-None.ensures
 
-pub parse_debug_section-requires : goal.parse_debug_section-requires
-parse_debug_section-requires c =
+pub invariant_of-part : goal.invariant_of-part
+invariant_of-part c =
     let short = payload-short c.args.source.file.now (place_at c.args.source.container section.Debug) in
-    part-fits _ _ _ (omega (arith, ap length c.in-Some.ensures.2, short.1)) c.requires
+    record { fits = part-fits _ _ _ (omega (arith, ap length c.in-Some.ensures.2, short.1)) c.requires }
 
 pub raised-requires : goal.raised-requires
 raised-requires c =
     raised-fits _ _
-    (λ x e. omega (arith, debug-below _ _ _ (debug-stopped _ _ x (rw e at c.parse_debug_section.ensures)), c.in-Some.payload.near))
+    (λ x e. omega (arith, debug-below _ _ _ (debug-stopped _ _ x (rw e at c.parse_debug_section.ensures)), c.in-Some.found.near))
 
 pub returns-in-Some : goal.returns-in-Some
 returns-in-Some c =

@@ -12,15 +12,15 @@ use Rattle.payloads.proofs.pass.read_table.Goals as goal
 pub returns-in-None : goal.returns-in-None
 returns-in-None c = rw (← c.section.ensures) (absent-fills _ _ _ _ c.in-None.ensures)
 
-pub parse_table-requires : goal.parse_table-requires
-parse_table-requires c =
+pub invariant_of-part : goal.invariant_of-part
+invariant_of-part c =
     let short = payload-short c.args.source.file.now (place_at c.args.source.container c.section.result) in
-    part-fits _ _ _ (omega (arith, ap length c.in-Some.ensures.2, short.1)) c.requires
+    record { fits = part-fits _ _ _ (omega (arith, ap length c.in-Some.ensures.2, short.1)) c.requires }
 
 pub raised-requires : goal.raised-requires
 raised-requires c =
     raised-fits _ _
-    (λ x e. omega (arith, table_below _ _ _ _ _ (fills-stopped _ _ x (rw e at c.parse_table.ensures)), c.in-Some.payload.near))
+    (λ x e. omega (arith, table_below _ _ _ _ _ (fills-stopped _ _ x (rw e at c.parse_table.ensures)), c.in-Some.found.near))
 
 pub returns-in-Some : goal.returns-in-Some
 returns-in-Some c =

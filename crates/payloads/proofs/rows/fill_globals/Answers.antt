@@ -12,7 +12,7 @@ use Rattle.payloads.proofs.rows.fill_globals.Goals as goal
 pub loop-init : goal.loop-init
 loop-init c =
     let z : c.args.count - 0 ≡ c.args.count = omega arith in
-    rw z (record { onward = λ s p r x. x; inside = c.requires.pos_in_bounds; words = omega arith })
+    rw z (record { onward = λ s p r x. x; inside = c.requires; words = omega arith })
 
 pub returns-in_err-row : goal.returns-in_err-row
 returns-in_err-row c =

@@ -16,8 +16,8 @@ abbrev pub invariant-loop : goal.invariant-loop
 invariant-loop l =
     record {
       onward : (sheet' pool : List ℕ) (r : Result (ℕ × Filled) Refused) →
-          Filling global_words no_runs l.count (times (l.count - l.counter) (global_at l.class) l.payload l.reader.pos) l.words l.at.bytes l.sheet sheet' pool pool r →
-          Filling global_words no_runs l.count (times l.count (global_at l.class) l.payload l.initial.reader.pos) l.initial.words l.at.bytes l.initial.sheet sheet' pool pool r;
+          Filling global_words no_runs l.count (times (l.count - l.counter) (global_at l.class) l.payload l.reader.pos) l.words l.fn.part.at.bytes l.sheet sheet' pool pool r →
+          Filling global_words no_runs l.count (times l.count (global_at l.class) l.payload l.initial.reader.pos) l.initial.words l.fn.part.at.bytes l.initial.sheet sheet' pool pool r;
       inside : l.reader.pos ≤ length l.payload;
       words : l.words + 8 * l.initial.reader.pos ≤ l.initial.words + 8 * l.reader.pos;
     }

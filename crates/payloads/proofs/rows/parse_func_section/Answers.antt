@@ -7,7 +7,7 @@ use Rattle.payloads.proofs.LawsRows.{funcs-stop, funcs-all}
 use Rattle.payloads.proofs.rows.parse_func_section.Goals as goal
 
 pub fill_funcs-requires : goal.fill_funcs-requires
-fill_funcs-requires c = record { fits = c.requires; pos_in_bounds = (varint-in _ _ _ _ c.in_ok-count.ensures).1 }
+fill_funcs-requires c = (varint-in _ _ _ _ c.in_ok-count.ensures).1
 
 pub returns-in_err-count : goal.returns-in_err-count
 returns-in_err-count c =

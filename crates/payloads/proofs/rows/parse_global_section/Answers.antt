@@ -7,7 +7,7 @@ use Rattle.payloads.proofs.LawsRows.{globals-stop, globals-all}
 use Rattle.payloads.proofs.rows.parse_global_section.Goals as goal
 
 pub fill_globals-requires : goal.fill_globals-requires
-fill_globals-requires c = record { fits = c.requires; pos_in_bounds = (varint-in _ _ _ _ c.in_ok-count.ensures).1 }
+fill_globals-requires c = (varint-in _ _ _ _ c.in_ok-count.ensures).1
 
 pub returns-in_err-count : goal.returns-in_err-count
 returns-in_err-count c =

@@ -8,15 +8,15 @@ use Rattle.payloads.proofs.tables.fill_at_once.Goals as goal
 
 pub slice_bounds-put_run-count : goal.slice_bounds-put_run-count
 slice_bounds-put_run-count c =
-    omega (arith, front-inside _ _ _ (wide-some c.args.width) c.requires.lies _ _ c.first_entry-front.ensures _ c.in_ok-rows.ensures)
+    omega (arith, front-inside _ _ _ (wide-some c.args.width) c.requires _ _ c.first_entry-front.ensures _ c.in_ok-rows.ensures)
 
 pub slice_bounds-put_run-start : goal.slice_bounds-put_run-start
 slice_bounds-put_run-start c =
-    omega (arith, front-inside _ _ _ (wide-some c.args.width) c.requires.lies _ _ c.first_entry-front.ensures _ c.in_ok-rows.ensures)
+    omega (arith, front-inside _ _ _ (wide-some c.args.width) c.requires _ _ c.first_entry-front.ensures _ c.in_ok-rows.ensures)
 
 pub slice_bounds-put_run-end : goal.slice_bounds-put_run-end
 slice_bounds-put_run-end c =
-    omega (arith, front-inside _ _ _ (wide-some c.args.width) c.requires.lies _ _ c.first_entry-front.ensures _ c.in_ok-rows.ensures)
+    omega (arith, front-inside _ _ _ (wide-some c.args.width) c.requires _ _ c.first_entry-front.ensures _ c.in_ok-rows.ensures)
 
 pub returns-in_err-rows : goal.returns-in_err-rows
 returns-in_err-rows c =
@@ -25,6 +25,6 @@ returns-in_err-rows c =
 
 pub returns : goal.returns
 returns c =
-    put-at-once _ _ _ (wide-some c.args.width) c.requires.lies _ _ c.first_entry-front.ensures _
+    put-at-once _ _ _ (wide-some c.args.width) c.requires _ _ c.first_entry-front.ensures _
     c.fill_entries-2.new.pool _ _ c.fill_entries-2.auto.pool
-    c.if-pool-at.false c.if-pool-at-2.false c.in_ok-rows.ensures c.put_run.ensures
+    c.if-pool-part.false c.if-pool-part-2.false c.in_ok-rows.ensures c.put_run.ensures

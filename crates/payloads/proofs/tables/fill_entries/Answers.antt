@@ -11,7 +11,7 @@ use Rattle.payloads.proofs.tables.fill_entries.Goals as goal
 
 pub loop-init : goal.loop-init
 loop-init c =
-    let (b, a) = run-first _ _ _ _ (wide-some c.args.width) c.requires.lies _ _ c.first_entry-from.ensures in
+    let (b, a) = run-first _ _ _ _ (wide-some c.args.width) c.requires _ _ c.first_entry-from.ensures in
     let z : c.args.starts.count - 0 ≡ c.args.starts.count = omega arith in
     rw z (record { onward = λ t p r x. x; before = b; words = omega arith; bytes = omega arith })
 
@@ -22,7 +22,7 @@ returns-in_err-next c =
     let m : c.args.starts.count - c.loop.counter ≡ suc (c.args.starts.count - (c.loop.counter + 1)) = omega arith in
     let p = err_from_is_err_and c.from_residual.result c.from_residual.ensures.1 in
     rw (p.1, p.2)
-    (runs-filled _ _ _ some c.requires.lies _ _ c.first_entry-from.ensures _ _ _ _ _ _
+    (runs-filled _ _ _ some c.requires _ _ c.first_entry-from.ensures _ _ _ _ _ _
     (l.onward _ _ _ (filling-stop run_words run_only _ _ _ _ _ _ _ _ _ (left-bad _ _ _ _ _ _ _ some _ refl _ _ _ _ m l.before _ _ (sym c.in_err-next.ensures)))))
 
 pub slice_bounds-entry-count : goal.slice_bounds-entry-count
@@ -37,10 +37,10 @@ slice_bounds-entry-end c = (end-got _ _ _ _ _ _ _ _ (sym c.in_ok-next.ensures)).
 pub overflow_add-bytes : goal.overflow_add-bytes
 overflow_add-bytes c =
     let (f, g, h) = end-got _ _ _ _ _ _ _ _ (sym c.in_ok-next.ensures) in
-    omega (arith, g, h, rest-length c.args.payload.now c.args.starts)
+    omega (arith, g, h, rest-length c.args.part.payload.now c.args.starts)
 
 pub overflow_add-words : goal.overflow_add-words
-overflow_add-words c = omega (arith, starts-few _ _ _ (wide-some c.args.width) c.requires.lies)
+overflow_add-words c = omega (arith, starts-few _ _ _ (wide-some c.args.width) c.requires)
 
 pub loop-preserved : goal.loop-preserved
 loop-preserved c =
@@ -59,5 +59,5 @@ loop-preserved c =
 pub returns : goal.returns
 returns c =
     let z : c.args.starts.count - c.loop.counter ≤ 0 = omega arith in
-    runs-filled _ _ _ (wide-some c.args.width) c.requires.lies _ _ c.first_entry-from.ensures _ _ _ _ _ _
+    runs-filled _ _ _ (wide-some c.args.width) c.requires _ _ c.first_entry-from.ensures _ _ _ _ _ _
     (c.loop.invariant.onward _ _ _ (filling-none run_words run_only _ _ _ _ _ _ _ _ _ (left-none _ _ _ _ _ _ _ _ _ _ z) refl refl))

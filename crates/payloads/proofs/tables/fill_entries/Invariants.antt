@@ -17,9 +17,9 @@ abbrev pub invariant-loop : goal.invariant-loop
 invariant-loop l =
     record {
       onward : (sheet' pool' : List ℕ) (r : Result (ℕ × Filled) Refused) →
-          Filling run_words run_only l.count (entries_left (wide l.width) 0 whole l.run l.base (length l.payload) l.data (l.count - l.counter) l.from.start.0 l.from.next)
+          Filling run_words run_only l.count (entries_left (wide l.width) 0 whole l.run l.base (length l.fn.part.payload.now) l.data (l.count - l.counter) l.from.start.0 l.from.next)
           l.words l.bytes l.sheet sheet' l.pool pool' r →
-          Filling run_words run_only l.count (entries_left (wide l.width) 0 whole l.run l.base (length l.payload) l.data l.count l.initial.from.start.0 l.initial.from.next)
+          Filling run_words run_only l.count (entries_left (wide l.width) 0 whole l.run l.base (length l.fn.part.payload.now) l.data l.count l.initial.from.start.0 l.initial.from.next)
           l.initial.words l.initial.bytes l.initial.sheet sheet' l.initial.pool pool' r;
       before : Before (wide l.width) (length l.data) l.run (l.count - l.counter) l.from.start.0 l.from.next;
       words : l.words ≡ l.initial.words + l.counter;

@@ -9,10 +9,7 @@ use Rattle.payloads.proofs.tables.parse_offset_table.Goals as goal
 
 pub fill_at_once-requires : goal.fill_at_once-requires
 fill_at_once-requires c =
-    record {
-      lies = starts-lie _ _ _ _ _ c.in_ok-starts.ensures;
-      fits = c.requires;
-    }
+    starts-lie _ _ _ _ _ c.in_ok-starts.ensures
 
 pub returns-in_err-starts : goal.returns-in_err-starts
 returns-in_err-starts c =

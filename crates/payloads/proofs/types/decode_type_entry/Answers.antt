@@ -1,33 +1,23 @@
 -- `decode_type_entry` reads the tag and its fields, and puts the count of their words. Assumes nothing.
 use mathlib.Core.Path.{sym}
-use mathlib.Core.List.{[]}
 use native.Mathlib.Omega.{arith}
 use Rattle.std.proofs.lemmas.Result.{err_from_is_err_and}
 use Rattle.reading.proofs.LawsNumbers.{varint-in}
 use Rattle.payloads.specs.declared.fields.Number.TheVariants.{Varint}
 use Rattle.payloads.specs.Fields.{number_at}
 use Rattle.payloads.proofs.LawsFields.{number-stop}
-use Rattle.payloads.proofs.LawsTypeEntries.{entry-stop, entry-refused, entry-got, row-least}
+use Rattle.payloads.proofs.LawsTypeEntries.{entry-got, row-least}
 use Rattle.payloads.proofs.types.decode_type_entry.Goals as goal
 
-pub returns-in_err-tag : goal.returns-in_err-tag
+pub returns-in_err-tag-clause-short : goal.returns-in_err-tag-clause-short
 unfolding number_at
-returns-in_err-tag c =
+returns-in_err-tag-clause-short c =
     let p = err_from_is_err_and c.from_residual.result c.from_residual.ensures.1 in
-    rw (p.1, p.2)
-    (record {
-      row = entry-stop _ _ _ _ [] _ _ c.in_err-tag.ensures;
-      short = omega (arith, number-stop Varint _ _ _ _ (sym c.in_err-tag.ensures));
-    })
+    rw (p.1, p.2) (omega (arith, number-stop Varint _ _ _ _ (sym c.in_err-tag.ensures)))
 
 pub decode_fields-requires : goal.decode_fields-requires
 decode_fields-requires c =
     let m = varint-in _ _ _ _ c.in_ok-tag.ensures in (m.1, omega (arith, m, c.requires))
-
-pub returns-in_err-end-clause-row : goal.returns-in_err-end-clause-row
-returns-in_err-end-clause-row c =
-    let p = err_from_is_err_and c.from_residual-in_err-end.result c.from_residual-in_err-end.ensures.1 in
-    rw (p.1, p.2) (entry-refused _ _ _ _ _ _ _ _ c.in_ok-tag.ensures _ c.in_err-end.ensures.row)
 
 pub overflow_sub-count : goal.overflow_sub-count
 overflow_sub-count c = row-least _ _ _ _ _ c.in_ok-end.ensures.row

@@ -1,40 +1,10 @@
 -- `old_partition_view` copies the fields below 13.3, and puts tag and presence before them. Assumes nothing.
 use native.Mathlib.Omega.{arith}
-use Rattle.std.proofs.lemmas.Result.{err_from_is_err_and}
 use Rattle.reading.specs.Numbers.{varint_at}
 use Rattle.payloads.specs.Fields.{number_at}
-use Rattle.payloads.proofs.LawsTypes.{ran_more, ran-last, ran-stop, field-if}
-use Rattle.payloads.proofs.LawsTypeEntries.{presence-got, presence-stop, old-stop, old_kind}
+use Rattle.payloads.proofs.LawsTypes.{ran_more, ran-last, field-if}
+use Rattle.payloads.proofs.LawsTypeEntries.{presence-got, old_kind}
 use Rattle.payloads.proofs.types.old_partition_view.Goals as goal
-
-pub returns-in_err-shape : goal.returns-in_err-shape
-returns-in_err-shape c =
-    let p = err_from_is_err_and c.from_residual.result c.from_residual.ensures.1 in
-    rw (p.1, p.2) (old-stop c.args.at (ran-stop c.in_err-shape.ensures))
-
-pub returns-in_err-view : goal.returns-in_err-view
-returns-in_err-view c =
-    let p = err_from_is_err_and c.from_residual-in_err-view.result c.from_residual-in_err-view.ensures.1 in
-    rw (p.1, p.2) (old-stop c.args.at (ran_more c.in_ok-shape.ensures (ran-stop c.in_err-view.ensures)))
-
-pub returns-in_err-dims : goal.returns-in_err-dims
-returns-in_err-dims c =
-    let p = err_from_is_err_and c.from_residual-in_err-dims.result c.from_residual-in_err-dims.ensures.1 in
-    rw (p.1, p.2)
-    (old-stop c.args.at (ran_more c.in_ok-shape.ensures (ran_more c.in_ok-view.ensures (ran-stop c.in_err-dims.ensures))))
-
-pub returns-in_err-presence : goal.returns-in_err-presence
-returns-in_err-presence c =
-    let p = err_from_is_err_and c.from_residual-in_err-presence.result c.from_residual-in_err-presence.ensures.1 in
-    let d = c.in_ok-dims.ensures in
-    rw (p.1, p.2)
-    (old-stop c.args.at
-    (ran_more c.in_ok-shape.ensures (ran_more c.in_ok-view.ensures (ran_more d (ran-last (presence-stop _ _ _ c.in_ok-dims.dims _ d.within.0 c.in_err-presence.ensures))))))
-
-pub copy_number_if-requires : goal.copy_number_if-requires
-copy_number_if-requires c =
-    let y = presence-got _ c.args.sheet.now c.in_ok-dims.dims _ _ c.in_ok-presence.ensures in
-    omega (arith, y.within, c.requires, c.in_ok-shape.ensures.within, c.in_ok-view.ensures.within, c.in_ok-dims.ensures.within)
 
 pub returns : goal.returns
 unfolding number_at
