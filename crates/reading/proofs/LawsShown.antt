@@ -51,18 +51,9 @@ module _ {A : Type 0} where
   pub of-only : {r q : Result (A × Reader) Refused} {g : Got A} → got_of r ≡ g → got_of q ≡ g → r ≡ q
   of-only = by-only (λ v r. v) (λ v. v) (λ v r. refl)
 
--- Runs of bytes: the place where one starts is part of what it stands for.
-pub told-bytes : (s : List ℕ) {r x : Result (ℕ × Reader) Refused} {g : Got (ℕ × List ℕ)} → r ≡ x → got_bytes s r ≡ g →
-    g ≡ got_bytes s x
-told-bytes s = told (got_bytes s)
-
 pub bytes-only : (s : List ℕ) {r q : Result (ℕ × Reader) Refused} {g : Got (ℕ × List ℕ)} → got_bytes s r ≡ g →
     got_bytes s q ≡ g → r ≡ q
 bytes-only s = by-only _ (λ v. v.0) (λ v r. refl)
-
--- Padding.
-pub told-padding : {r x : Result Reader Refused} {g : Got (Unit {0})} → r ≡ x → got_padding r ≡ g → g ≡ got_padding x
-told-padding = told got_padding
 
 abbrev back_padding : Got (Unit {0}) → Result Reader Refused
 back_padding (got v j) = Ok (record { pos = j })

@@ -18,11 +18,12 @@ pub struct Reader {
     pub pos: usize,
 }
 
-// Why a read is refused, and the place in the data that the refusal names.
+// Why a read is refused, and the place in the data that the refusal names. The place stands first: in a `Result` it lies
+// over the first word of the value, where a byte would have the compiler take that word apart.
 #[derive(Clone, Copy, PartialEq, Eq)]
 pub struct Refused {
-    pub refusal: Refusal,
     pub at: usize,
+    pub refusal: Refusal,
 }
 
 // What a read answers: a value and the reader behind it, or a refusal.
