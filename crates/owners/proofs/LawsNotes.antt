@@ -51,6 +51,10 @@ module _ {owners notes : List ℕ} {k : ℕ} (x : Notes owners notes k) where
       each l (no j) h t =
           let q : k ≡ l = omega arith in subst (λ m. Taken owners m → Noted notes' (instance_at owners m) m) q this t
 
+  -- .. so one that is noted already, or is free ..
+  pub unnoted : (Taken owners k → Noted notes (instance_at owners k) k) → Notes owners notes (k + 1)
+  unnoted this = more notes x.size (λ j h. omega (arith, x.before j h)) (λ i l n. n) this
+
   -- .. and one that fills an empty place.
   filled : (c v : ℕ) → c < 1024 → get_or notes c 0 < 128 → v < 128 + (k + 1) → Noted (set notes c v) (instance_at owners k) k →
       Notes owners (set notes c v) (k + 1)

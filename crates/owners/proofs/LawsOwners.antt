@@ -15,6 +15,11 @@ use Rattle.std.specs.Prelude.{Option, None, Some}
 use Rattle.slots.specs.Lent.{mark_at, instance_at, length_at, Taken, Rows}
 use Rattle.owners.specs.Owners.{is_free, is_of, Such, FreeRow, RowOf, FirstRow, HeldAmong}
 
+-- A negation tells of what is the other's negation.
+pub tells-not : {P Q : Type 0} {t : Bool} → Tells P t → (P → ¬ Q) → (¬ P → Q) → Tells Q (not t)
+tells-not {t = true} x to from = tells-no (to (x.holds refl))
+tells-not {t = false} x to from = tells-yes (from (x.fails refl))
+
 -- A comparison of two numbers that differ tells of what does not hold ..
 pub tells-differ : {P : Type 0} (a b : ℕ) → ¬ (a ≡ b) → ¬ P → Tells P (eqb a b)
 tells-differ {P} a b n h = subst (Tells P) (sym (ne_eqb a b n)) (tells-no h)

@@ -71,6 +71,9 @@ use Rattle.payloads.specs.DebugRows.{attribute_row, list_rows, debug_words, coun
 use Rattle.payloads.proofs.LawsFields.{map-got, map-stop, put-got, put-err, times-length}
 use Rattle.payloads.proofs.LawsEntryRows.{row-stop, row-got, row-refused, row_put, row_more, row-stopped}
 
+pub count-few : (l : List ℕ) (t j n : ℕ) → byte l 0 ≡ got t j → n ≡ get_or field_counts t 0 → n ≤ 6
+count-few l t j n e f = omega (arith, f, counts-few t)
+
 -- The fields that an attribute does not have, among zeros for all.
 zeros-behind : (m n : ℕ) → n ≤ m → drop n (replicate {A = ℕ} m 0) ≡ replicate (m - n) 0
 zeros-behind m zero h = rw sub-zero refl
@@ -150,6 +153,10 @@ module _ (l s s₁ s₂ : List ℕ) (w t j n : ℕ) (e : byte l 0 ≡ got t j) (
   fields-got b p =
       let (vs, f, m, q) = put-got _ (w + 1) s₁ s₂ b p in
       (vs, fields-read _ b.value vs b.pos refl f, m, q)
+
+  pub attribute-word : (b : Spot) → Put (numbers n n Varint l j) (w + 1) s₁ s₂ (Ok b) → b.word ≡ w + 1 + n
+  attribute-word b p =
+      let (vs, f, m, q) = fields-got b p in omega (arith, m, times-length n varint_at l j vs b.pos f)
 
   pub attribute-row : (b : Spot) (s' : List ℕ) → s₁ ≡ put_word s w t → Put (numbers n n Varint l j) (w + 1) s₁ s₂ (Ok b) →
       s' ≡ put_words s₂ b.word (take (6 - n) (drop n (replicate {A = ℕ} 6 0))) → (v : ℕ) →

@@ -106,6 +106,9 @@ funcs-filled n l i at s s' p p' r x =
 
 -- The words of a row, one by one: from word k of the row on ..
 module _ (ws : List ℕ) (s : List ℕ) (i : ℕ) where
+  pub row-begun : put_words s (i + 0) (drop 0 ws) ≡ put_words s i ws
+  row-begun = ap (λ i. put_words s i ws) (add-zero i)
+
   -- .. one more ..
   pub row_more : (k : ℕ) (t : List ℕ) → k < length ws → t ≡ put_word s (i + k) (get_or ws k 0) →
       put_words s (i + k) (drop k ws) ≡ put_words t (i + (k + 1)) (drop (k + 1) ws)

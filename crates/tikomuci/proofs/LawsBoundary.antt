@@ -43,6 +43,11 @@ pub puts : (f : Wrote → Answer) {n at required : ℕ} {bs out out' : List ℕ}
     below.Puts n at required bs out out' x → Puts f n at required bs out out' r
 puts f e p = record { answer = told f e p.answer; output = p.output }
 
+-- The same of a float attribute.
+pub puts-float : {w : EncodingWriter} {bits : ℕ} {ty : FloatType} {out out' : List ℕ} {r : Answer} {x : Result EncodingWriter Refusal} → w.required_alignment ≡ 1 →
+    r ≡ next_place (below.wrote_of x) → floats.WritesFloat w bits ty out out' x → WritesFloat w.at bits ty out out' r
+puts-float e f p = record { bytes = p.bytes; spelt = p.spelt; written = rw (← e) (puts next_place f p.written) }
+
 -- An answer that was refused past the data shows what is refused there.
 pub shown-past : {A : Type 0} (f : Got A → Answer) → ((c k : ℕ) → f (stop c k) ≡ refused_as c) → (p : Parser A) (l : List ℕ)
     (i : ℕ) {r a : Answer} → r ≡ choose (dec_le i (length l)) a (refused_as refusals.short) → a ≡ f (p l i) → r ≡ f (reached p l i)

@@ -96,6 +96,27 @@ pub cache-put : (n i : ℕ) (file : List ℕ) (s s' : Lent) (x : Result ℕ Stop
 cache-put n i file s s' x r e p =
     record { changes = changed x (put-answered n i file s) e p.writes p.kept p.others; means = p.means }
 
+-- Dropping, shown.
+pub cache-dropped : (n i : ℕ) (s s' : Lent) (x : Result ℕ Stopped) (r : Answer) → r ≡ slot (slot_read x) → DropPost n i s s' x →
+    CacheDropped n i s s' r
+cache-dropped n i s s' x r e p =
+    let d = drop-answered n i s in
+    record {
+      changes = changed x d e p.writes p.kept p.others;
+      cleared = λ z. p.cleared r.first (slot-shown x d e p.writes.answered z);
+      means = p.means;
+    }
+
+-- Fetching, shown.
+pub cache-fetched : (n i k : ℕ) (s : Lent) (x : Result View Stopped) (r : Answer) → r ≡ view (view_of x) → FetchPost n i k s x →
+    CacheFetched n i k s r
+cache-fetched n i k s x r e p =
+    let d = answered-map (in_buffer (slot_size n s.buffer)) (fetch-answered n i k s) in
+    record {
+      answer = told view e p.answer;
+      sound = λ z. p.sound (span_in r) (shown view span_in (λ v. refl) (λ c m a. refl) r (subst Answered (sym p.answer) d) e z);
+    }
+
 -- A call that writes has one answer, and leaves one buffer and one owner table.
 changes-only : {n : ℕ} {answers : Lent → Read ℕ} {leaves : Lent → Lent} {s a b : Lent} {r q : Answer} → Changes n answers leaves s a r →
     Changes n answers leaves s b q → (r ≡ q) × (a ≡ b)

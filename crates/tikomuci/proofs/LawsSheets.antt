@@ -15,9 +15,30 @@ use Rattle.tikomuci.specs.declared.answers.Answer.{Answer}
 use Rattle.tikomuci.specs.Sheets.{size, SheetWritten, SheetImaged, TypeNamed}
 use Rattle.tikomuci.proofs.LawsTold.{room-told, length-told, size-refused}
 
+-- Writing, shown.
+pub sheet-written : (s pool out out' : List ℕ) (x : Result ℕ Refusal) (r : Answer) → r ≡ size (image_size x) → WritePost s pool out out' x →
+    SheetWritten s pool out out' r
+sheet-written s pool out out' x r e p =
+    record {
+      answer = e ∙ ap size p.answer;
+      output = p.output;
+      unchanged = λ z. let (c, n, i, h) = size-refused (image_size x) r e z in p.unchanged c n i h;
+      written = λ z. p.written r.first (p.answer ∙ room-told s pool (length out) r (e ∙ ap size p.answer) z);
+      complete = λ t h whole words bytes m n k l. e ∙ ap size (p.complete t h whole words bytes m n k l);
+    }
+
 pub sheet-written-only : {s pool out out' out'' : List ℕ} {r q : Answer} → SheetWritten s pool out out' r → SheetWritten s pool out out'' q →
     (r ≡ q) × (out' ≡ out'')
 sheet-written-only x y = (x.answer ∙ sym y.answer, x.output ∙ sym y.output)
+
+-- Measuring what would be written, shown.
+pub sheet-imaged : (s : List ℕ) (x : Result ℕ Refusal) (r : Answer) → r ≡ size (image_size x) → ImagePost s x → SheetImaged s r
+sheet-imaged s x r e p =
+    record {
+      answer = e ∙ ap size p.answer;
+      sound = λ z. p.sound r.first (p.answer ∙ length-told s r (e ∙ ap size p.answer) z);
+      complete = λ t h whole words m k. e ∙ ap size (p.complete t h whole words m k);
+    }
 
 pub sheet-imaged-only : {s : List ℕ} {r q : Answer} → SheetImaged s r → SheetImaged s q → r ≡ q
 sheet-imaged-only x y = x.answer ∙ sym y.answer
