@@ -43,7 +43,7 @@ impl Answer {
     {
         Self {
             refusal: u64::from(refusal.number()),
-            stage: u64::from(Stage::CALL),
+            stage: u64::from(Stage::Call.number()),
             first: 0,
             second: 0,
         }
