@@ -84,8 +84,8 @@ impl RawSections {
     }
 
     // The place of an id's payload; ids at or above NUM_SECTIONS have none.
-    pub fn get(self, id: u64) -> SectionPlace
-        ensures { result ≡ get_or self.places id nowhere }
+    pub fn get(&self, id: u64) -> SectionPlace
+        ensures { result ≡ get_or self.now.places id nowhere }
     {
         if id < NUM_SECTIONS as u64 {
             self.places[id as usize]
@@ -94,6 +94,9 @@ impl RawSections {
         }
     }
 }
+
+// What the read of a section answers: its id, and where its payload stands; none at the end marker.
+pub type SectionHeaderRead = Read<Option<(u8, SectionPlace)>>;
 
 // Header and sections of a file.
 #[derive(Clone, Copy, PartialEq, Eq)]
@@ -149,7 +152,7 @@ fn skip_alignment(data: &[u8], r: Reader, id_and_align: u8) -> Result<Reader, Re
 
 // A section: its id, and where its payload stands; none at the end marker.
 #[tactic(auto, unfolding(exact::specs::Got::follow, exact::specs::Basic::pure, exact::specs::Sequence::bind, exact::specs::Sequence::mapped, exact::specs::Upto::place, format::specs::DecodeContainer::item_at, format::specs::DecodeContainer::section_at), using(crate::proofs::LawsItem::low_seven, crate::proofs::LawsItem::end_marker, crate::proofs::LawsItem::no_end_marker, crate::proofs::LawsItem::raw_placed))]
-fn read_section(data: &[u8], r: Reader) -> Read<Option<(u8, SectionPlace)>>
+fn read_section(data: &[u8], r: Reader) -> SectionHeaderRead
     ensures { got_of result ≡ mapped held_item item_at «data».now r.pos }
 {
     let (id_and_align, r) = r.read_byte(data)?;

@@ -37,7 +37,11 @@ pub fn measure(file: &[u8]) -> Result<Need, Stopped>
     ensures { file_read result ≡ map_read need_of (decode file.now) }
 {
     let container = sections::read_container(file)?;
-    fill(Source { file, container }, &mut [], &mut [])
+    let source = Source {
+        file,
+        container: &container,
+    };
+    fill(source, &mut [], &mut [])
 }
 
 // The tables of a file as a sheet and a pool. The first pass measures, on no store, so that a refused call has written
@@ -46,7 +50,10 @@ pub fn read(file: &[u8], sheet: &mut [u8], pool: &mut [u8]) -> Result<Need, Stop
     ensures { Reads file.now sheet.old sheet.new pool.old pool.new result }
 {
     let container = sections::read_container(file)?;
-    let source = Source { file, container };
+    let source = Source {
+        file,
+        container: &container,
+    };
     let need = fill(source, &mut sheet[0..0], &mut pool[0..0])?;
     if sheet.len() / 8 < need.words || pool.len() < need.bytes {
         return Err(Stopped::call(Refusal::Full));

@@ -121,7 +121,7 @@ fn read_table(
     at: Filled,
 ) -> TableRead
     requires { Fits at source.file.now }
-    ensures { Fills at (in_place source.entry.file.now (place_at source.entry.container (section_of table)) (table_in table (class (version_of source.entry.container.version))) no_rows) sheet.old sheet.new pool.old pool.new result }
+    ensures { Fills at (in_place source.entry.file.now (place_at source.entry.container.now (section_of table)) (table_in table (class (version_of source.entry.container.now.version))) no_rows) sheet.old sheet.new pool.old pool.new result }
 {
     match source.payload(table.section()) {
         None => Ok((0, at)),
@@ -147,7 +147,7 @@ fn fill_table(
     at: Filled,
 ) -> Result<(usize, Filled), Stopped>
     requires { Fits at source.file.now }
-    ensures { (n : ℕ) → Goes (number_of table) (number_of table + 1) (table_step source.entry.file.now source.entry.container table) (Ok (at, n)) sheet.old sheet.new pool.old pool.new (table_found result) }
+    ensures { (n : ℕ) → Goes (number_of table) (number_of table + 1) (table_step source.entry.file.now source.entry.container.now table) (Ok (at, n)) sheet.old sheet.new pool.old pool.new (table_found result) }
 {
     let (rows, next) = staged(read_table(table, source, sheet, pool, at), table.stage())?;
     put_table(sheet, table.contents(), at.words, rows);
@@ -156,7 +156,7 @@ fn fill_table(
 
 // The producer's word: its index and 1, or 0 where none is named. It is one of the strings, which have been counted.
 fn fill_producer(source: Source, strings: usize) -> Result<u64, Stopped>
-    ensures { (at : Filled) (s p : List ℕ) → Goes 1 1 (with_producer source.entry.file.now (place_at source.entry.container section.Producer)) (Ok (at, strings)) s s p p (word_found at result) }
+    ensures { (at : Filled) (s p : List ℕ) → Goes 1 1 (with_producer source.entry.file.now (place_at source.entry.container.now section.Producer)) (Ok (at, strings)) s s p p (word_found at result) }
 {
     let Some(payload) = source.payload(Section::Producer) else {
         return Ok(0);
@@ -169,7 +169,7 @@ fn fill_producer(source: Source, strings: usize) -> Result<u64, Stopped>
 // The Debug section, as read_table reads a table.
 fn read_debug(source: Source, sheet: &mut [u8], at: Filled) -> DebugRead
     requires { Fits at source.file.now }
-    ensures { DebugFills at (in_place source.entry.file.now (place_at source.entry.container section.Debug) (λ l. debug_at l 0) no_debug) sheet.old sheet.new result }
+    ensures { DebugFills at (in_place source.entry.file.now (place_at source.entry.container.now section.Debug) (λ l. debug_at l 0) no_debug) sheet.old sheet.new result }
 {
     match source.payload(Section::Debug) {
         None => Ok(DebugFilled {
@@ -190,7 +190,7 @@ fn read_debug(source: Source, sheet: &mut [u8], at: Filled) -> DebugRead
 // Two tables more. The rows of attributes have seven words each, and those of the lists stand behind them.
 fn fill_debug(source: Source, sheet: &mut [u8], at: Filled) -> Result<Filled, Stopped>
     requires { Fits at source.file.now }
-    ensures { (n : ℕ) (p : List ℕ) → Goes 5 7 (with_debug (in_place source.entry.file.now (place_at source.entry.container section.Debug) (λ l. debug_at l 0) no_debug)) (Ok (at, n)) sheet.old sheet.new p p (debug_found result) }
+    ensures { (n : ℕ) (p : List ℕ) → Goes 5 7 (with_debug (in_place source.entry.file.now (place_at source.entry.container.now section.Debug) (λ l. debug_at l 0) no_debug)) (Ok (at, n)) sheet.old sheet.new p p (debug_found result) }
 {
     let debug = staged(read_debug(source, sheet, at), Stage::Debug)?;
     put_table(sheet, 15, at.words, debug.attributes);

@@ -7,12 +7,12 @@ ghost use Rattle.container.specs.Container.{opened, held_container};
 use container::sections::Container;
 use enums::{Section, VersionClass};
 
-// A file, and what its header and sections say.
+// A file, and what its header and sections say. These are lent, since each step of a pass is handed a source.
 #[derive(Clone, Copy)]
 pub struct Source<'a> {
     pub file: &'a [u8],
-    pub container: Container,
-    ghost read: { accepted container ≡ map_read held_container (opened file.now) },
+    pub container: &'a Container,
+    ghost read: { accepted container.now ≡ map_read held_container (opened file.now) },
     ghost bytes: { (i : ℕ) → get_or file.now i 0 < 256 },
 }
 
@@ -30,14 +30,14 @@ impl<'a> Source<'a> {
     ghost use Rattle.payloads.specs.Pass.{Stands, place_at};
 
     pub fn class(self) -> VersionClass
-        ensures { result ≡ class (version_of self.entry.container.version) }
+        ensures { result ≡ class (version_of self.entry.container.now.version) }
     {
         self.container.version.class()
     }
 
     // The payload that counts for a section, if one is present.
     pub fn payload(self, section: Section) -> Option<Payload<'a>>
-        ensures { Stands self.entry.file.now (place_at self.entry.container section) result }
+        ensures { Stands self.entry.file.now (place_at self.entry.container.now section) result }
     {
         let place = self.container.sections.get(section.id() as u64);
         if !place.presence {

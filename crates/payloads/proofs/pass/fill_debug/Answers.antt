@@ -17,20 +17,20 @@ returns-in_err-debug c =
 pub overflow_mul-debug : goal.overflow_mul-debug
 overflow_mul-debug c =
     let s = c.args.source in
-    let bound = debug-bound s.file.now _ (known_bytes s.file.now s.bytes) (source-short s.file.now s.container s.read) in
+    let bound = debug-bound s.file.now _ (known_bytes s.file.now s.bytes) (source-short s.file.now s.container.now s.read) in
     let read = rw (staged-ok _ _ _ c.in_ok-debug.ensures) at c.read_debug.ensures in
     omega (arith, attributes-few _ _ _ read bound)
 
 pub overflow_add-at : goal.overflow_add-at
 overflow_add-at c =
     let s = c.args.source in
-    let bound = debug-bound s.file.now _ (known_bytes s.file.now s.bytes) (source-short s.file.now s.container s.read) in
+    let bound = debug-bound s.file.now _ (known_bytes s.file.now s.bytes) (source-short s.file.now s.container.now s.read) in
     let read = rw (staged-ok _ _ _ c.in_ok-debug.ensures) at c.read_debug.ensures in
     omega (arith, attributes-few _ _ _ read bound)
 
 pub returns : goal.returns
 returns c =
     let s = c.args.source in
-    let bound = debug-bound s.file.now _ (known_bytes s.file.now s.bytes) (source-short s.file.now s.container s.read) in
+    let bound = debug-bound s.file.now _ (known_bytes s.file.now s.bytes) (source-short s.file.now s.container.now s.read) in
     let read = rw (staged-ok _ _ _ c.in_ok-debug.ensures) at c.read_debug.ensures in
     λ n p. debug-goes _ _ n _ read bound c.put_table.ensures c.put_table-2.ensures

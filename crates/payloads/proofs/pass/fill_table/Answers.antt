@@ -21,6 +21,6 @@ put_table-requires c = omega (arith, c.contents.ensures, number_small c.args.tab
 pub returns : goal.returns
 returns c =
     let s = c.args.source in
-    let bound = in-place-bound _ _ s.file.now _ (known_bytes s.file.now s.bytes) (source-short s.file.now s.container s.read) in
+    let bound = in-place-bound _ _ s.file.now _ (known_bytes s.file.now s.bytes) (source-short s.file.now s.container.now s.read) in
     let read = rw (staged-ok _ _ _ c.in_ok-rows.ensures) at c.read_table.ensures in
     λ n. table-goes _ _ _ _ n _ _ (number_small c.args.table) read bound c.contents.ensures c.put_table.ensures

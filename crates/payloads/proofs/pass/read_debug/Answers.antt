@@ -17,7 +17,7 @@ returns-in-None c = absent-debug _ _ _ _ c.in-None.ensures
 
 pub invariant_of-part : goal.invariant_of-part
 invariant_of-part c =
-    let short = payload-short c.args.source.file.now (place_at c.args.source.container section.Debug) in
+    let short = payload-short c.args.source.file.now (place_at c.args.source.container.now section.Debug) in
     record { fits = part-fits _ _ _ (omega (arith, ap length c.in-Some.ensures.2, short.1)) c.requires }
 
 pub raised-requires : goal.raised-requires

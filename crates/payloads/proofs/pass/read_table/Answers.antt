@@ -14,7 +14,7 @@ returns-in-None c = rw (← c.section.ensures) (absent-fills _ _ _ _ c.in-None.e
 
 pub invariant_of-part : goal.invariant_of-part
 invariant_of-part c =
-    let short = payload-short c.args.source.file.now (place_at c.args.source.container c.section.result) in
+    let short = payload-short c.args.source.file.now (place_at c.args.source.container.now c.section.result) in
     record { fits = part-fits _ _ _ (omega (arith, ap length c.in-Some.ensures.2, short.1)) c.requires }
 
 pub raised-requires : goal.raised-requires
