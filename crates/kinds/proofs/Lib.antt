@@ -1,3 +1,4 @@
 pub mod LawsIndices
 pub mod LawsOpenings
 pub mod LawsEndings
+pub mod LawsScalars

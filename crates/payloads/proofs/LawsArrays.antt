@@ -110,33 +110,45 @@ module _ (e k : ℕ) (l : List ℕ) (i w : ℕ) where
       rw (drop-cons (nums e k l) i 0 n, a, add-one i, g, q)
 
 -- All n numbers of k bytes are there ..
-module _ (n k : ℕ) (l s s' : List ℕ) (t : Spot) (some : 0 < k) (low : t.pos ≤ length l) where
-  pub several-got : n ≤ (length l - t.pos) / k → s' ≡ put_words s t.word (nums n k (drop t.pos l)) →
-      Step 0 (several n n (fixed k)) l t s s' (Ok record { pos = t.pos + n * k; word = t.word + n; value = n })
+module _ (n k : ℕ) (l : List ℕ) (i w : ℕ) (s s' : List ℕ) where
+  several-fit : n ≤ (length l - i) / k → n * k ≤ length l - i
+  several-fit h = starts_fit k l i n (length l - i) refl h
+
+  pub several-got : n ≤ (length l - i) / k → s' ≡ put_words s w (nums n k (drop i l)) →
+      Put (several n n (fixed k) l i) w s s' (Ok record { pos = i + n * k; word = w + n; value = n })
   unfolding several Put
   several-got h e =
-      let f : n * k ≤ length l - t.pos = starts_fit k l t.pos n (length l - t.pos) refl h in
-      let w : n * 1 ≤ n * k = mul-le-mul_left n some in
-      let m : several n n (fixed k) l t.pos ≡ got (n, nums n k (drop t.pos l)) (t.pos + n * k) =
-      map-got (λ vs. (n, vs)) (times n (fixed k)) l t.pos (nums n k (drop t.pos l)) (t.pos + n * k) (times-at n k l t.pos f) in
-      let q : t.word + length (nums n k (drop t.pos l)) ≡ t.word + n = omega (arith, length-nums n k (drop t.pos l)) in
-      record {
-        put = subst (λ g. Put g t.word s s' (Ok record { pos = t.pos + n * k; word = t.word + n; value = n })) (sym m) (rw q refl, e);
-        within = (omega (arith, f), omega (arith, w));
-      }
+      let m : several n n (fixed k) l i ≡ got (n, nums n k (drop i l)) (i + n * k) =
+      map-got (λ vs. (n, vs)) (times n (fixed k)) l i (nums n k (drop i l)) (i + n * k) (times-at n k l i (several-fit h)) in
+      let q : w + length (nums n k (drop i l)) ≡ w + n = omega (arith, length-nums n k (drop i l)) in
+      subst (λ g. Put g w s s' (Ok record { pos = i + n * k; word = w + n; value = n })) (sym m) (rw q refl, e)
 
   -- .. or only so many that the next one breaks where it begins.
-  pub several-short : (length l - t.pos) / k < n →
-      Step 0 (several n n (fixed k)) l t s s' (Err record { refusal = Short; at = t.pos + (length l - t.pos) / k * k })
+  several-room : (length l - i) / k * k ≤ length l - i
+  several-room = starts-room k l i n (length l - i) refl
+
+  pub several-short : 0 < k → (length l - i) / k < n →
+      Put (several n n (fixed k) l i) w s s' (Err record { refusal = Short; at = i + (length l - i) / k * k })
   unfolding several
-  several-short h =
-      let q : ℕ = (length l - t.pos) / k in
-      let b : length l - t.pos < suc q * k = omega (arith, lt-div-mul-add {a = length l - t.pos} some) in
-      let r : q * k ≤ length l - t.pos = starts-room k l t.pos n (length l - t.pos) refl in
-      record {
-        put = put-stop _ t.word s s' _ (map-stop (λ vs. (n, vs)) (times n (fixed k)) l t.pos ended (t.pos + q * k) (times-end n k l t.pos q h r b));
-        within = omega (arith, r);
-      }
+  several-short some h =
+      let q : ℕ = (length l - i) / k in
+      let b : length l - i < suc q * k = omega (arith, lt-div-mul-add {a = length l - i} some) in
+      put-stop _ w s s' _ (map-stop (λ vs. (n, vs)) (times n (fixed k)) l i ended (i + q * k) (times-end n k l i q h several-room b))
+
+-- Inside an entry both are steps.
+module _ (n k : ℕ) (l s s' : List ℕ) (t : Spot) (some : 0 < k) (low : t.pos ≤ length l) where
+  pub several-step : n ≤ (length l - t.pos) / k → s' ≡ put_words s t.word (nums n k (drop t.pos l)) →
+      Step 0 (several n n (fixed k)) l t s s' (Ok record { pos = t.pos + n * k; word = t.word + n; value = n })
+  several-step h e =
+      let f = several-fit n k l t.pos t.word s s' h in
+      let m : n * 1 ≤ n * k = mul-le-mul_left n some in
+      record { put = several-got n k l t.pos t.word s s' h e; within = (omega (arith, f), omega (arith, m)) }
+
+  pub several-end : (length l - t.pos) / k < n →
+      Step 0 (several n n (fixed k)) l t s s' (Err record { refusal = Short; at = t.pos + (length l - t.pos) / k * k })
+  several-end h =
+      let r = several-room n k l t.pos t.word s s' in
+      record { put = several-short n k l t.pos t.word s s' some h; within = omega (arith, r) }
 
 -- Parsers that answer the same do so n times.
 module _ (p q : Parser ℕ) (l : List ℕ) (same : (j : ℕ) → p l j ≡ q l j) where

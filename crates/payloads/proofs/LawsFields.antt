@@ -95,27 +95,49 @@ module _ (p : Parser (ℕ × List ℕ)) (q : ℕ → Parser (ℕ × List ℕ)) (
         bind-got p _ l t.pos (u.value, vs) u.pos (sym a) ∙ map-stop (λ b. (b.0, vs ++ b.1)) (q u.value) l u.pos c k f in
         subst (λ g. Put g t.word s s₂ r) (sym m) x
 
+  -- What two steps put is put by one ..
+  pub puts-then : (s₁ s₂ : List ℕ) (u : Spot) (r : Result Spot Refused) → Put (p l t.pos) t.word s s₁ (Ok u) →
+      Put (q u.value l u.pos) u.word s₁ s₂ r → Put (then p q l t.pos) t.word s s₂ r
+  puts-then s₁ s₂ u r x y =
+      let (vs, a, b, h) = put-got (p l t.pos) t.word s s₁ u x in
+      put-then s₁ s₂ u r vs a b h (q u.value l u.pos) refl y
+
+  -- .. and where the first is refused, both are.
+  pub puts-stop : (s₁ s₂ : List ℕ) (x : Refused) → Put (p l t.pos) t.word s s₁ (Err x) → Put (then p q l t.pos) t.word s s₂ (Err x)
+  unfolding then
+  puts-stop s₁ s₂ x y = put-stop _ t.word s s₂ x (bind-stop p _ l t.pos _ x.at (sym (put-err (p l t.pos) t.word s s₁ x y)))
+
 module _ (p : Parser (ℕ × List ℕ)) (q : ℕ → Parser (ℕ × List ℕ)) {l s : List ℕ} {n : ℕ} {t : Spot} where
   -- Two steps are one ..
   pub step-then : {m : ℕ} {s₁ s₂ : List ℕ} {u : Spot} {r : Result Spot Refused} → Step n p l t s s₁ (Ok u) →
       Step m (q u.value) l u s₁ s₂ r → Step (n + m) (then p q) l t s s₂ r
   step-then {m} {s₁} {s₂} {u} {r} x y =
-      let (vs, a, b, h) = put-got (p l t.pos) t.word s s₁ u x.put in
       record {
-        put = put-then p q l s t s₁ s₂ u r vs a b h (q u.value l u.pos) refl y.put;
+        put = puts-then p q l s t s₁ s₂ u r x.put y.put;
         within = within-then l n m t.pos t.word u r x.within.1 y.within;
       }
 
   -- .. and where the first is refused, both are.
   pub step-stop : {s₁ s₂ : List ℕ} {x : Refused} → Step n p l t s s₁ (Err x) → Step n (then p q) l t s s₂ (Err x)
-  unfolding then
-  step-stop {s₁} {s₂} {x} y =
-      record {
-        put = put-stop _ t.word s s₂ x (bind-stop p _ l t.pos _ x.at (sym (put-err (p l t.pos) t.word s s₁ x y.put)));
-        within = y.within;
-      }
+  step-stop {s₁} {s₂} {x} y = record { put = puts-stop p q l s t s₁ s₂ x y.put; within = y.within }
 
--- A step from where the step before it has ended: a refusal is handed out.
+-- The value to go on with.
+abbrev pub value_of : Result Spot Refused → ℕ
+value_of (Ok t) = t.value
+value_of (Err x) = 0
+
+-- What a step puts from where the step before it has ended: a refusal is handed out ..
+abbrev pub Copied : Parser (ℕ × List ℕ) → List ℕ → Result Spot Refused → List ℕ → List ℕ → Result Spot Refused → Type 0
+Copied p l (Ok t) s s' r = Put (p l t.pos) t.word s s' r
+Copied p l (Err x) s s' r = r ≡ Err x
+
+module _ (p : Parser (ℕ × List ℕ)) (q : ℕ → Parser (ℕ × List ℕ)) (l s s₁ s₂ : List ℕ) (t : Spot) where
+  pub copied-then : (r₁ r : Result Spot Refused) → Put (p l t.pos) t.word s s₁ r₁ → Copied (q (value_of r₁)) l r₁ s₁ s₂ r →
+      Put (then p q l t.pos) t.word s s₂ r
+  copied-then (Ok u) r x y = puts-then p q l s t s₁ s₂ u r x y
+  copied-then (Err z) r x y = subst (Put (then p q l t.pos) t.word s s₂) (sym y) (puts-stop p q l s t s₁ s₂ z x)
+
+-- .. and the step itself.
 abbrev pub Next : ℕ → Parser (ℕ × List ℕ) → List ℕ → Result Spot Refused → List ℕ → List ℕ → Result Spot Refused → Type 0
 Next n p l (Ok t) s s' r = Step n p l t s s' r
 Next n p l (Err x) s s' r = r ≡ Err x

@@ -25,9 +25,9 @@ use Rattle.reading.specs.declared.Refused.{Refused}
 use Rattle.payloads.specs.declared.fields.Number.{Number}
 use Rattle.payloads.specs.declared.fields.Number.TheVariants.{Varint}
 use Rattle.payloads.specs.declared.fields.Spot.{Spot}
-use Rattle.payloads.specs.Fields.{number_at, several, numbers, Put, Step}
+use Rattle.payloads.specs.Fields.{number_at, several, numbers, Put, Within, Step}
 use Rattle.payloads.specs.Indices.{tops, Spans, Even}
-use Rattle.payloads.proofs.LawsFields.{Next, then, step-then, step-stop, step-same, numbers-done, numbers_more}
+use Rattle.payloads.proofs.LawsFields.{Copied, Next, then, copied-then, within-then, numbers-done, numbers_more}
 
 -- a values and then b more are a + b.
 module _ {A : Type 0} (p : Parser A) (l : List ℕ) where
@@ -84,18 +84,29 @@ module _ (k : Number) (l : List ℕ) where
   rest-same m c a b i =
       rest-first m c a b i (times a (number_at k) l i) refl ∙ ap (λ g. follow g (λ vs k. got (m, vs) k)) (sym (times-add (number_at k) l a b i))
 
--- Whatever copying the rest leaves, copying them all leaves it.
-pub numbers-rest : (k : Number) (m n left : ℕ) (l s s₁ s' : List ℕ) (t : Spot) (r₁ r : Result Spot Refused) → n ≤ left →
+  -- Whatever copying the rest leaves, copying them all leaves it ..
+  pub numbers-rest : (m n left i w : ℕ) (s s₁ s' : List ℕ) (r₁ r : Result Spot Refused) → n ≤ left →
+      Put (numbers n n k l i) w s s₁ r₁ → Copied (numbers m (left - n) k) l r₁ s₁ s' r → Put (numbers m left k l i) w s s' r
+  numbers-rest m n left i w s s₁ s' r₁ r h x y =
+      let e : n + (left - n) ≡ left = omega arith in
+      let t : Spot = record { pos = i; word = w; value = 0 } in
+      subst (λ n. Put (numbers m n k l i) w s s' r) e
+      (subst (λ g. Put g w s s' r) (rest-same m n n (left - n) i)
+      (copied-then (numbers n n k) (λ _. numbers m (left - n) k) l s s₁ s' t r₁ r x y))
+
+-- .. and so the step does.
+pub steps-rest : (k : Number) (m n left : ℕ) (l s s₁ s' : List ℕ) (t : Spot) (r₁ r : Result Spot Refused) → n ≤ left →
     Step 0 (numbers n n k) l t s s₁ r₁ → Next 0 (numbers m (left - n) k) l r₁ s₁ s' r → Step 0 (numbers m left k) l t s s' r
-numbers-rest k m n left l s s₁ s' t (Ok u) r h x y =
-    let e : n + (left - n) ≡ left = omega arith in
-    subst (λ n. Step 0 (numbers m n k) l t s s' r) e
-    (step-same _ _ (rest-same k l m n n (left - n) t.pos) (step-then (numbers n n k) (λ _. numbers m (left - n) k) x y))
-numbers-rest k m n left l s s₁ s' t (Err z) r h x y =
-    let e : n + (left - n) ≡ left = omega arith in
-    subst (λ n. Step 0 (numbers m n k) l t s s' r) e
-    (subst (λ r. Step 0 (numbers m (n + (left - n)) k) l t s s' r) (sym y)
-    (step-same _ _ (rest-same k l m n n (left - n) t.pos) (step-stop (numbers n n k) (λ _. numbers m (left - n) k) x)))
+steps-rest k m n left l s s₁ s' t (Ok u) r h x y =
+    record {
+      put = numbers-rest k l m n left t.pos t.word s s₁ s' (Ok u) r h x.put y.put;
+      within = within-then l 0 0 t.pos t.word u r x.within.1 y.within;
+    }
+steps-rest k m n left l s s₁ s' t (Err z) r h x y =
+    record {
+      put = numbers-rest k l m n left t.pos t.word s s₁ s' (Err z) r h x.put y;
+      within = subst (Within l t.pos t.word 0) (sym y) x.within;
+    }
 
 -- How many numbers were copied is the answer's value.
 value-told : (n w : ℕ) (s s' : List ℕ) (t : Spot) (g : Got (List ℕ)) → Put (follow g (λ vs j. got (n, vs) j)) w s s' (Ok t) → t.value ≡ n
@@ -114,13 +125,13 @@ module _ (k : Number) {l s s₁ : List ℕ} {n : ℕ} {t : Spot} where
   pub some-got : {u : Spot} (m left : ℕ) (s' : List ℕ) (r : Result Spot Refused) → Step 0 (numbers n n k) l t s s₁ (Ok u) → n ≤ left →
       Step 0 (numbers m (left - u.value) k) l u s₁ s' r → Step 0 (numbers m left k) l t s s' r
   some-got {u} m left s' r x h y =
-      numbers-rest k m n left l s s₁ s' t (Ok u) r h x
+      steps-rest k m n left l s s₁ s' t (Ok u) r h x
       (subst (λ v. Step 0 (numbers m (left - v) k) l u s₁ s' r) (some-value x) y)
 
   -- .. or one of them was refused.
   pub some-stop : {y : Refused} (m left : ℕ) (s' : List ℕ) → Step 0 (numbers n n k) l t s s₁ (Err y) → n ≤ left →
       Step 0 (numbers m left k) l t s s' (Err y)
-  some-stop {y} m left s' x h = numbers-rest k m n left l s s₁ s' t (Err y) (Err y) h x refl
+  some-stop {y} m left s' x h = steps-rest k m n left l s s₁ s' t (Err y) (Err y) h x refl
 
 -- They were all of them.
 pub some-all : (k : Number) (n m : ℕ) {l s s₁ : List ℕ} {t u : Spot} → Step 0 (numbers n n k) l t s s₁ (Ok u) →

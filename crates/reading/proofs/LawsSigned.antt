@@ -17,6 +17,7 @@ use Rattle.exact.specs.Basic.{pure}
 use Rattle.exact.specs.Sequence.{bind, mapped}
 use Rattle.exact.proofs.LawsChoice.{choose_yes, choose_no}
 use Rattle.encoding.specs.Signed.{unzigzag, signed}
+use Rattle.encoding.proofs.LawsSigned.{zigzag-unzigzag, zigzag-fits}
 
 module _ {A B : Type 0} (f : A → B) (p : Parser A) (l : List ℕ) (i : ℕ) where
   -- A function of a value that was read ..
@@ -54,3 +55,7 @@ signed-fits w v h =
           let m : ¬ (v < 2 ^ w) = rw z at l in
           rw (choose_no (dec_lt v (2 ^ (suc w - 1))) (pos v) (negsuc (2 ^ suc w - 1 - v)) l, pow-suc) (omega arith)
     ]
+
+-- .. and the zigzag of 64 bits that of a number that fits them.
+pub unzigzag-fits : (v : ℕ) → v < 2 ^ 64 → mag (unzigzag v) < 2 ^ 63
+unzigzag-fits v h = (zigzag-fits (unzigzag v)).1 (rw zigzag-unzigzag h)

@@ -1,12 +1,12 @@
 -- Little-endian numbers at a place, once over the width: one byte, and two numbers side by side. Assumes nothing.
 use mathlib.Core.Path.{◌≡◌, sym, ap, ◌∙◌}
-use Prim.Native.Nat.{ℕ, zero, suc, ◌+◌, ◌-◌, ◌*◌, ◌^◌, ◌<◌}
-use native.Mathlib.Nat.{pow-suc, mul_assoc, mul-one, pow-zero, add-zero, add-suc}
+use Prim.Native.Nat.{ℕ, zero, suc, ◌+◌, ◌-◌, ◌*◌, ◌^◌, ◌≤◌, ◌<◌}
+use native.Mathlib.Nat.{pow-suc, mul-le-mul_left, mul_assoc, mul-one, pow-zero, add-zero, add-suc}
 use native.Mathlib.Omega.{arith}
 use native.Mathlib.Decide.{dec_lt}
 use mathlib.Core.List.{List, [], ◌∷◌, ◌++◌}
-use lib.ListN.{length, take, drop, get_or}
-use lib.Seq.{take-length, take-add, drop-cons, length-take-le}
+use lib.ListN.{length, take, drop, get_or, length-drop}
+use lib.Seq.{take-length, take-add, drop-drop, drop-cons, length-take-le}
 use mir.Syntax.{Width}
 use Rattle.std.specs.Prelude.{slice_index}
 use Rattle.std.specs.Int.{from_le_bytes, byte_worth, byte_len, sum_through}
@@ -43,6 +43,17 @@ fixed-one l i =
       | yes h ↦ byte_at l i h ∙ sym (rw (← byte_word l i h) (fixed-at 1 l i (omega arith)))
       | no h ↦ byte-end l i (omega arith) ∙ sym (fixed-end 1 l i (omega arith))
     ]
+
+-- A number of a bytes with one of b bytes right behind it is one of a + b bytes.
+pub word-join : (a b : ℕ) (l : List ℕ) (i x y : ℕ) → i + a ≤ length l → Word a l i x → Word b l (i + a) y →
+    Word (a + b) l i (x + 256 ^ a * y)
+word-join a b l i x y h u v =
+    let n : length (take a (drop i l)) ≡ a = length-take-le a (drop i l) (omega (arith, length-drop i l)) in
+    let m : 256 ^ a * suc y ≤ 256 ^ a * 256 ^ b = mul-le-mul_left (256 ^ a) v.fits in
+    record {
+      value = rw (take-add, little-append, n, drop-drop, ← u.value, ← v.value);
+      fits = rw pow-add (omega (arith, u.fits));
+    }
 
 -- The library's number of little-endian bytes is that of the list: of its first k + 1 bytes ..
 through : (bs : List ℕ) (k : ℕ) → k < length bs →

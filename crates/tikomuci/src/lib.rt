@@ -27,7 +27,8 @@ ghost use Rattle.tikomuci.specs.Files.{Measured, FileDone};
 ghost use Rattle.tikomuci.specs.Sheets.{SheetWritten, SheetImaged, TypeNamed};
 ghost use Rattle.tikomuci.specs.Caches.{cache_slots, session_slots, CachePut, CacheFetched, CacheDropped};
 
-use answers::{Answer, Shown};
+pub use answers::Answer;
+use answers::Shown;
 use encoding::{EncodingWriter, FloatType};
 use enums::Refusal;
 use reading::{Reader, Refused};
