@@ -46,7 +46,9 @@ pub fn put_value(sheet: &mut [u8], value: u64, at: Spot) -> Spot
     }
 }
 
-// Copies a varint.
+// Copies a varint. It is part of the function that calls it, and so is what reads the number: no reader of a payload
+// calls anything for a number, however many steps by `?` stand before it.
+#[inline(always)]
 pub fn copy_number(entry: &[u8], sheet: &mut [u8], at: Spot) -> Result<Spot, Refused>
     requires { Room «entry».now at }
     ensures { Step 1 (as_word varint_at) «entry».now at sheet.old sheet.new result }
@@ -60,6 +62,7 @@ pub fn copy_number(entry: &[u8], sheet: &mut [u8], at: Spot) -> Result<Spot, Ref
 }
 
 // Copies a varint if it is there; else a word 0 stands for it.
+#[inline(always)]
 pub fn copy_number_if(
     entry: &[u8],
     there: bool,

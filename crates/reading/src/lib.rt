@@ -92,7 +92,9 @@ impl Reader {
         Ok((at, Reader { pos: at + n }))
     }
 
-    // Most numbers are one byte.
+    // Most numbers are one byte. It is part of what reads a number: behind some steps by `?` the compiler takes a call for
+    // cold, and would leave it one.
+    #[inline(always)]
     pub fn read_varint(self, data: &[u8]) -> Read<u64>
         ensures { got_of result ≡ varint_at «data».now self.pos }
     {
@@ -119,6 +121,7 @@ impl Reader {
 
     // A number of more than one byte: each of the first nine counts seven bits, `weight` what the next of them counts, and
     // the tenth counts its lowest bit alone.
+    #[inline(always)]
     fn read_digits(self, data: &[u8], first: u64) -> Read<u64>
         requires { Begins «data».now self.pos first }
         ensures { got_of result ≡ varint_at «data».now self.pos }
